@@ -1,5 +1,6 @@
 -- What `lint` and `--explain` do, from what each step did.
 use Rattle.std.proofs.Common.{◌≡◌, ◌≢◌, ℕ, Bool, true, false, List, [], Option, Some, None, Result, refl, sym, subst}
+use Rattle.std.proofs.Common.{if◌then◌else◌}
 use Rattle.std.proofs.KnownBytes.{Keeps-refl}
 use Rattle.clap.specs.Words.{Text}
 use Rattle.c62_answer.specs.Message.{told_of}
@@ -16,32 +17,21 @@ use Rattle.c62_files.specs.Call.{From}
 use Rattle.c62_teach.specs.declared.words.Linting.{Linting}
 use Rattle.c62_teach.specs.Words.{is_explained, is_lint, linting_of, plain_words}
 use Rattle.c62_teach.specs.Linted.{IsLinted}
-use Rattle.c62_teach.specs.Taught.{Teaches}
-use Rattle.c62_program.specs.Program.{Explained, IsGiven, IsRefusedFor, Lint, Lints, OnBytes, OnNothing, Plain, Refused}
-use Rattle.c62_program.specs.Program.{RunsExplained, RunsFrom, RunsLint, RunsWords}
-use Rattle.c62_program.specs.Teaching.{IsLintRun, IsMoreTold, RunsMore, listing_name, text_name}
+use Rattle.c62_teach.specs.Faulted.{TellsFaults}
+use Rattle.c62_program.specs.Program.{IsGiven, IsRefusedFor, Lint, Lints, OnBytes, OnNothing, Plain, Refused}
+use Rattle.c62_program.specs.Program.{WithMore, is_told, RunsFrom, RunsLint, RunsTold, RunsWords}
+use Rattle.c62_program.specs.Teaching.{IsLintRun, RunsMore, TeachesWanted, behind_text, behind_words, listing_name}
+use Rattle.c62_program.specs.Teaching.{text_name}
 use Rattle.c62_program.specs.declared.page.TheConstants.{LINT}
 
 -- ---- more is told
 
-pub more_told : {E : Type 0} (result : Result (Unit {0}) E) (wanted status : ℕ) (more : List ℕ)
-    (old new : Option (List ℕ))
-    → told_of result old new more → status ≡ wanted → IsMoreTold wanted more old new status
-more_told result wanted status more old new told is = record {
-  told = λ e. told_tells result old new more told;
-  none = λ other. absurd (other is);
-}
-
-pub nothing_told : (wanted status : ℕ) (more : List ℕ) (old : Option (List ℕ)) → status ≢ wanted
-    → IsMoreTold wanted more old old status
-nothing_told wanted status more old other = record { told = λ is. absurd (other is); none = λ e. Keeps-refl old }
-
-pub ran_more : (wanted : ℕ) (words : List Text) (more : List ℕ) (old : Streams)
+pub ran_more : {E : Type 0} (result : Result (Unit {0}) E) (words : List Text) (more : ℕ → List ℕ) (old : Streams)
     (input output told errors : Option (List ℕ)) (status : ℕ)
-    → IsRun words old (streams input output told) status → IsMoreTold wanted more told errors status
-    → RunsMore wanted words more old (streams input output errors) status
-ran_more wanted words more old input output told errors status run says = record
-    { told = told; runs = run; more_told = says }
+    → IsRun words old (streams input output told) status → told_of result told errors (more status)
+    → RunsMore words more old (streams input output errors) status
+ran_more result words more old input output told errors status run says =
+    record { told = told; runs = run; behind = told_tells result told errors (more status) says }
 
 -- ---- lint
 
@@ -62,41 +52,52 @@ lint_found holds words source old new status linting bytes lines faulty name is 
     Lints linting some bytes given lines faulty (subst (λ (n : Text). IsLinted linting n bytes lines faulty) is found)
     run
 
--- ---- explanations
+-- ---- what words ask for
 
-pub refused_setting : (words : List Text) (number : ℕ) (more : List ℕ) → IsRefusal (refused.Setting number) words
-    → more ≡ setting_taught (setting_at words number) → IsRefusedFor words more
-refused_setting words number more is says = record
+pub refused_setting : (wanted : Bool) (words : List Text) (number : ℕ) (more : List ℕ)
+    → IsRefusal (refused.Setting number) words
+    → more ≡ (if wanted then setting_taught (setting_at words number) else []) → IsRefusedFor wanted words more
+refused_setting wanted words number more is says = record
     { error = refused.Setting number; known = λ same. cc; refused = is; taught = says }
 
-pub refused_promise : (words : List Text) (bad : BadPromise) → IsRefusal (refused.Promise bad) words
-    → IsRefusedFor words []
-refused_promise words bad is = record { error = refused.Promise bad; known = λ same. cc; refused = is; taught = refl }
+no_more : (wanted : Bool) (more : List ℕ) → more ≡ [] → [] ≡ (if wanted then more else [])
+no_more true more none = sym none
+no_more false more none = refl
 
-pub refused_words : (words : List Text) (error : Error) → IsRefusal (refused.Words error) words → IsRefusedFor words []
-refused_words words error is = record { error = refused.Words error; known = λ same. cc; refused = is; taught = refl }
+pub refused_promise : (wanted : Bool) (words : List Text) (bad : BadPromise) → IsRefusal (refused.Promise bad) words
+    → IsRefusedFor wanted words []
+refused_promise wanted words bad is = record
+    { error = refused.Promise bad; known = λ same. cc; refused = is; taught = no_more wanted [] refl }
 
-pub nothing_explained : (holds : Holding) (words plain : List Text) (source : From) (old new : Streams) (more : List ℕ)
-    (status : ℕ) → plain ≡ plain_words words
-    → IsRefusedFor plain more → RunsMore 2 plain more old new status → RunsExplained holds words source old new status
-nothing_explained holds words plain source old new more status is refused run =
-    OnNothing more (subst (λ (w : List Text). IsRefusedFor w more) is refused)
-    (subst (λ (w : List Text). RunsMore 2 w more old new status) is run)
+pub refused_words : (wanted : Bool) (words : List Text) (error : Error) → IsRefusal (refused.Words error) words
+    → IsRefusedFor wanted words []
+refused_words wanted words error is = record
+    { error = refused.Words error; known = λ same. cc; refused = is; taught = no_more wanted [] refl }
 
-pub bytes_explained : (holds : Holding) (words plain : List Text) (source : From) (old new : Streams)
-    (bytes more : List ℕ) (left : Option (List ℕ)) (status : ℕ)
-    (ask : Ask) (name listing : Text) → plain ≡ plain_words words → name ≡ text_name source
-    → listing ≡ listing_name source → asked plain ≡ Some ask
-    → IsGiven holds old.input source bytes → Teaches ask name listing bytes more
-    → RunsMore 1 plain more (streams (Some bytes) old.output old.errors) (streams left new.output new.errors) status
-    → RunsExplained holds words source old new status
-bytes_explained holds words plain source old new bytes more left status ask name listing is named listed asks given
-    teaches run =
-    OnBytes bytes left given more
-    (rw (← is, asks) (subst (λ (l : Text). Teaches ask (text_name source) l bytes more) listed
-    (subst (λ (n : Text). Teaches ask n listing bytes more) named teaches)))
-    (subst (λ (w : List Text). RunsMore 1 w more (streams (Some bytes) old.output old.errors)
-    (streams left new.output new.errors) status) is run)
+-- ---- words of which more is told
+
+pub nothing_told : (holds : Holding) (words plain : List Text) (source : From) (old new : Streams) (explained : Bool)
+    (more : List ℕ) (status : ℕ)
+    → explained ≡ is_explained words → plain ≡ plain_words words
+    → IsRefusedFor explained plain more → RunsMore plain (behind_words more) old new status
+    → RunsTold holds words source old new status
+nothing_told holds words plain source old new explained more status wanted is refused run =
+    OnNothing more (rw (← wanted, ← is) refused) (rw (← is) run)
+
+pub bytes_told : (holds : Holding) (words plain : List Text) (source : From) (old new : Streams) (explained : Bool)
+    (bytes more faulted : List ℕ) (left : Option (List ℕ)) (status : ℕ) (ask : Ask) (name listing : Text)
+    → explained ≡ is_explained words → plain ≡ plain_words words → name ≡ text_name source
+    → listing ≡ listing_name source → asked plain ≡ Some ask → IsGiven holds old.input source bytes
+    → TeachesWanted explained ask name listing bytes more → TellsFaults ask bytes faulted
+    → RunsMore plain (behind_text more faulted) (streams (Some bytes) old.output old.errors)
+    (streams left new.output new.errors) status
+    → RunsTold holds words source old new status
+bytes_told holds words plain source old new explained bytes more faulted left status ask name listing wanted is named
+    listed asks given teaches faults run =
+    OnBytes bytes left given more faulted
+    (rw (← wanted, ← is, asks) (rw (named, listed) at teaches))
+    (rw (← is, asks) faults)
+    (rw (← is) run)
 
 -- ---- words
 
@@ -105,12 +106,11 @@ pub words_lint : (holds : Holding) (words : List Text) (source : From) (old new 
     → RunsLint holds words source old new status → RunsWords holds words source old new status
 words_lint holds words source old new status is run = Lint is run
 
-pub words_explained : (holds : Holding) (words : List Text) (source : From) (old new : Streams) (status : ℕ)
-    → is_explained words ≡ true
-    → RunsExplained holds words source old new status → RunsWords holds words source old new status
-words_explained holds words source old new status is run = Explained is run
+pub words_told : (holds : Holding) (words : List Text) (source : From) (old new : Streams) (status : ℕ)
+    → is_told words ≡ true → RunsTold holds words source old new status → RunsWords holds words source old new status
+words_told holds words source old new status is run = WithMore is run
 
 pub words_plain : (holds : Holding) (words : List Text) (source : From) (old new : Streams) (status : ℕ)
-    → is_lint words ≡ false → is_explained words ≡ false
-    → RunsFrom holds words source old new status → RunsWords holds words source old new status
-words_plain holds words source old new status lint explained run = Plain lint explained run
+    → is_lint words ≡ false → is_told words ≡ false → RunsFrom holds words source old new status
+    → RunsWords holds words source old new status
+words_plain holds words source old new status lint told run = Plain lint told run

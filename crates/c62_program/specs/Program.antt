@@ -19,11 +19,11 @@ use Rattle.c62_files.specs.Writing.{AreBegun, AreWritten, IsReplaced}
 use Rattle.c62_files.specs.Call.{From, IsCall, IsMistake, Standard, File, Parts, is_standard, text_source}
 use Rattle.c62_files.specs.declared.call.Call.{Call}
 use Rattle.c62_teach.specs.declared.words.Linting.{Linting}
-use Rattle.c62_teach.specs.Words.{is_explained, is_lint, linting_of, plain_words}
+use Rattle.c62_teach.specs.Words.{is_explained, is_lint, is_strict, linting_of, plain_words}
 use Rattle.c62_teach.specs.Linted.{IsLinted}
 use Rattle.c62_teach.specs.Setting.{setting_taught}
 use Rattle.c62_program.specs.Joined.{IsJoined}
-use Rattle.c62_program.specs.Teaching.{Explains, IsLintRun, IsTopicRun, RunsMore, is_topic, name_asked, text_name}
+use Rattle.c62_program.specs.Teaching.{Explains, Faults, IsLintRun, IsTopicRun, RunsMore, behind_text, behind_words, is_topic, name_asked, text_name}
 use Rattle.c62_program.specs.Written.{IsWritten}
 use Rattle.c62_program.specs.declared.page.TheConstants.{LINT}
 use Rattle.c62_program.specs.declared.teaching.Asked.{Asked}
@@ -87,33 +87,40 @@ abbrev pub refusal_taught : List Text → CommandError → List ℕ
 refusal_taught words (Setting k) = setting_taught (setting_at words k)
 refusal_taught words error = []
 
--- the words ask for nothing, and this explains why
-pub record IsRefusedFor (words : List Text) (more : List ℕ) : Type 0 where
+-- the words ask for nothing, and this explains why, where that is wanted
+pub record IsRefusedFor (wanted : Bool) (words : List Text) (more : List ℕ) : Type 0 where
   pub error : CommandError
   pub known : error ≢ Memory
   pub refused : IsRefusal error words
-  pub taught : more ≡ refusal_taught words error
+  pub taught : more ≡ (if wanted then refusal_taught words error else [])
 
 -- what words ask for, or why they ask for nothing
-abbrev pub IsAsked : List Text → Asked → Type 0
-IsAsked words (Known request) = asked words ≡ Some (ask_of request)
-IsAsked words (Unknown more) = IsRefusedFor words more.items
+abbrev pub IsAsked : (wanted : Bool) → List Text → Asked → Type 0
+IsAsked wanted words (Known request) = asked words ≡ Some (ask_of request)
+IsAsked wanted words (Unknown more) = IsRefusedFor wanted words more.items
 
--- A run of words with `--explain`: what is promised of a run without that is so of it. Behind what that tells of a text or of words that are
--- refused stands what explains why.
-pub data RunsExplained (holds : Holding) (words : List Text) (source : From) (old new : Streams) (status : ℕ) : Type 0 where
-  OnNothing : (more : List ℕ) → IsRefusedFor (plain_words words) more → RunsMore 2 (plain_words words) more old new status
-      → RunsExplained holds words source old new status
+-- more is told than by the run itself
+abbrev pub is_told : List Text → Bool
+is_told words = is_explained words || is_strict words
+
+-- A run of words with `--explain`, or with `--strict` where they run serial text: what is promised of a run without `--explain` is so of it.
+-- Behind what that tells of a text or of words that are refused stands with `--explain` what explains why, and behind a strict run in which
+-- accesses fault stands each of them.
+pub data RunsTold (holds : Holding) (words : List Text) (source : From) (old new : Streams) (status : ℕ) : Type 0 where
+  OnNothing : (more : List ℕ) → IsRefusedFor (is_explained words) (plain_words words) more
+      → RunsMore (plain_words words) (behind_words more) old new status → RunsTold holds words source old new status
   OnBytes : (bytes : List ℕ) (left : Option (List ℕ)) → IsGiven holds old.input source bytes
-      → (more : List ℕ) → Explains (plain_words words) source bytes more
-      → RunsMore 1 (plain_words words) more (streams (Some bytes) old.output old.errors) (streams left new.output new.errors) status
-      → RunsExplained holds words source old new status
+      → (refused faulted : List ℕ) → Explains (is_explained words) (plain_words words) source bytes refused
+      → Faults (plain_words words) bytes faulted
+      → RunsMore (plain_words words) (behind_text refused faulted) (streams (Some bytes) old.output old.errors)
+      (streams left new.output new.errors) status
+      → RunsTold holds words source old new status
 
--- What words do on what their source gives: they ask for `lint`, or for a command with or without explanations.
+-- What words do on what their source gives: they ask for `lint`, or for a command, of which more is told or not.
 pub data RunsWords (holds : Holding) (words : List Text) (source : From) (old new : Streams) (status : ℕ) : Type 0 where
   Lint : is_lint words ≡ true → RunsLint holds words source old new status → RunsWords holds words source old new status
-  Explained : is_explained words ≡ true → RunsExplained holds words source old new status → RunsWords holds words source old new status
-  Plain : is_lint words ≡ false → is_explained words ≡ false → RunsFrom holds words source old new status
+  WithMore : is_told words ≡ true → RunsTold holds words source old new status → RunsWords holds words source old new status
+  Plain : is_lint words ≡ false → is_told words ≡ false → RunsFrom holds words source old new status
       → RunsWords holds words source old new status
 
 -- An answer was made: all of it was written. That of `lint` is what it finds.

@@ -1,14 +1,15 @@
--- What is told by `lint` and behind `--explain` (docs/FAULTS.md).
-use Rattle.std.specs.Prelude.{◌≡◌, ◌≢◌, ℕ, ◌==◌, Bool, false, List, [], ◌∷◌, ◌++◌, codes, Option, Some, None, if◌then◌else◌}
+-- What is told by `lint`, and behind `--explain` and `--strict` (docs/FAULTS.md; docs/REPORT.md, "Strict runs").
+use Rattle.std.specs.Prelude.{◌≡◌, ℕ, ◌==◌, Bool, true, false, List, [], ◌∷◌, ◌++◌, codes, Option, Some, None, if◌then◌else◌}
 use Rattle.std.specs.Str.{bytes_eq}
 use Rattle.std.specs.Io.KnownBytes.{Keeps}
 use Rattle.std.specs.Option.{IsSomeAnd}
 use Rattle.clap.specs.Words.{Text}
 use Rattle.c62_answer.specs.Message.{Tells}
 use Rattle.c62_answer.specs.Run.{IsRun, Streams, streams}
-use Rattle.c62_command.specs.CommandLine.{asked}
+use Rattle.c62_command.specs.CommandLine.{Ask, asked}
 use Rattle.c62_files.specs.Call.{From, Standard, File, Parts}
 use Rattle.c62_explain.specs.Topic.{page_in}
+use Rattle.c62_teach.specs.Faulted.{TellsFaults}
 use Rattle.c62_teach.specs.Taught.{Teaches}
 use Rattle.c62_program.specs.Written.{IsWritten}
 use Rattle.c62_program.specs.declared.page.TheConstants.{EXPLAIN}
@@ -34,23 +35,36 @@ status_by faulty = if faulty then 1 else 0
 abbrev pub IsLintRun : (lines : List ℕ) → (faulty : Bool) → (old new errors told : Option (List ℕ)) → (status : ℕ) → Type 0
 IsLintRun lines faulty old new errors told status = IsWritten lines (status_by faulty) old new errors told status
 
--- ---- explanations
+-- ---- more than a run tells
 
--- more is told where the status is this one, and else nothing
-pub record IsMoreTold (wanted : ℕ) (more : List ℕ) (old new : Option (List ℕ)) (status : ℕ) : Type 0 where
-  pub told : status ≡ wanted → Tells old new more
-  pub none : status ≢ wanted → Keeps old new
+-- behind words that are refused: why they are
+abbrev pub behind_words : (blamed : List ℕ) → (status : ℕ) → List ℕ
+behind_words blamed status = if status == 2 then blamed else []
 
--- words are run, and then more is told where the status is this one
-pub record RunsMore (wanted : ℕ) (words : List Text) (more : List ℕ) (old new : Streams) (status : ℕ) : Type 0 where
+-- behind a text that is refused: what explains its fault; behind a run in which accesses fault: each of them
+abbrev pub behind_text : (refused faulted : List ℕ) → (status : ℕ) → List ℕ
+behind_text refused faulted status = if status == 1 then refused else (if status == 7 then faulted else [])
+
+-- words are run, and behind what that tells stands more, by the status
+pub record RunsMore (words : List Text) (more : ℕ → List ℕ) (old new : Streams) (status : ℕ) : Type 0 where
   -- what the error stream holds then
   pub told : Option (List ℕ)
   pub runs : IsRun words old (streams new.input new.output told) status
-  pub more_told : IsMoreTold wanted more told new.errors status
+  pub behind : Tells told new.errors (more status)
 
--- this explains the fault of what a source gives, for what the words ask of it
-abbrev pub Explains : List Text → From → (bytes more : List ℕ) → Type 0
-Explains words source bytes more = IsSomeAnd (asked words) (λ ask. Teaches ask (text_name source) (listing_name source) bytes more)
+-- this explains the fault of a text, for what is asked of it, where that is wanted
+abbrev pub TeachesWanted : (wanted : Bool) → Ask → (name listing text more : List ℕ) → Type 0
+TeachesWanted true ask name listing text more = Teaches ask name listing text more
+TeachesWanted false ask name listing text more = more ≡ []
+
+-- so it is of what a source gives, for what the words ask of it
+abbrev pub Explains : (wanted : Bool) → List Text → From → (bytes more : List ℕ) → Type 0
+Explains wanted words source bytes more =
+    IsSomeAnd (asked words) (λ ask. TeachesWanted wanted ask (text_name source) (listing_name source) bytes more)
+
+-- these are the accesses that fault in a strict run of it, where the words ask for one
+abbrev pub Faults : List Text → (bytes more : List ℕ) → Type 0
+Faults words bytes more = IsSomeAnd (asked words) (λ ask. TellsFaults ask bytes more)
 
 -- ---- names
 

@@ -14,14 +14,14 @@ ghost use Rattle.c62_program.specs.Program.{AreParts, HasBegun, IsGiven, IsHeld,
 use crate::dumping::{counts_for, run_dumping};
 use crate::joined::joined;
 use crate::page::{Page, page_asked, write_page};
-use crate::teaching::{run_explained, run_lint};
+use crate::teaching::{run_lint, run_told};
 use crate::topic::{is_topic, run_topic};
 use crate::trouble::{Trouble, report};
 use crate::written::status_behind;
 use c62_answer::{InputError, MOST_BYTES, read_text, run_tool};
 use c62_command::{CommandError, command_of};
 use c62_files::{Call, Folder, Source, call_of, expanded};
-use c62_teach::{is_explained, is_lint};
+use c62_teach::{is_explained, is_lint, is_strict};
 use std::alloc::{AllocError, Global};
 use std::convert::AsStr;
 use std::io::{Read, Write};
@@ -125,7 +125,7 @@ fn run_from<'a, H: AllocGlobal + Threads + Wait + Sync, F: Folder, R: Read, W: W
     Ok(run_tool(rt, words, &mut text, output, errors))
 }
 
-/// Does what words ask for on what their source gives: `lint`, or a command with or without explanations.
+/// Does what words ask for on what their source gives: `lint`, or a command of which more is told or not.
 #[tactic(auto)]
 pub(crate) fn run_words<
     'a,
@@ -153,8 +153,8 @@ pub(crate) fn run_words<
     if is_lint(words) {
         return Ok(run_lint(rt, folder, words, source, input, output, errors)?);
     }
-    if is_explained(words) {
-        return Ok(run_explained(rt, folder, words, source, input, output, errors)?);
+    if is_explained(words) || is_strict(words) {
+        return Ok(run_told(rt, folder, words, source, input, output, errors)?);
     }
     Ok(run_from(rt, folder, words, source, input, output, errors)?)
 }

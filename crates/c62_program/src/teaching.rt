@@ -1,12 +1,15 @@
-//! Runs `lint`, and commands with `--explain`.
+//! Runs `lint`, and commands of which more is told.
 
-ghost use Rattle.std.specs.Prelude.{◌≡◌, ℕ, List, Option, Some, IfOk, IfErr, map, string_bytes};
+ghost use Rattle.std.specs.Prelude.{◌≡◌, ℕ, List, [], Option, Some, IfOk, IfErr, map, string_bytes, if◌then◌else◌};
 ghost use Rattle.std.specs.Io.KnownBytes.{Keeps};
 ghost use Rattle.c62_answer.specs.Run.{streams};
 ghost use Rattle.c62_files.specs.Call.{text_source};
-ghost use Rattle.c62_program.specs.Program.{IsAsked, RunsExplained, RunsLint};
+ghost use Rattle.c62_command.specs.Blamed.{setting_at};
+ghost use Rattle.c62_command.specs.CommandLine.{ask_of};
+ghost use Rattle.c62_teach.specs.Setting.{setting_taught};
+ghost use Rattle.c62_program.specs.Program.{IsAsked, RunsLint, RunsTold};
 ghost use Rattle.c62_program.specs.Trouble.{IsTroubleWithSource};
-ghost use Rattle.c62_program.specs.Teaching.{IsLintRun, IsMoreTold, RunsMore, listing_name, status_by, text_name};
+ghost use Rattle.c62_program.specs.Teaching.{IsLintRun, RunsMore, TeachesWanted, behind_text, behind_words, listing_name, status_by, text_name};
 
 use crate::page::LINT;
 use crate::program::given;
@@ -15,7 +18,10 @@ use crate::written::status_behind;
 use c62_answer::{run_tool, write_whole};
 use c62_command::{CommandError, Request, command_of};
 use c62_files::{Folder, Source};
-use c62_teach::{Linted, Names, lint_text, linting_of, plain_words, setting_taught, taught};
+use c62_teach::{
+    Linted, Names, faults_told, is_explained, lint_text, linting_of, plain_words, setting_taught,
+    taught,
+};
 use std::alloc::{AllocError, Global};
 use std::io::{Read, Write};
 use std::sync::Wait;
@@ -95,82 +101,125 @@ enum Asked {
     Unknown(Vec<u8>),
 }
 
+/// What explains why this setting is none, where that is wanted.
+fn setting_told(
+    alloc: Global,
+    wanted: bool,
+    words: &[&str],
+    number: usize,
+) -> Result<Vec<u8>, AllocError>
+    ensures { IfOk result (λ more. more.items ≡ (if wanted then setting_taught (setting_at (map (λ word. word.now) words.now) number) else [])) }
+{
+    if wanted {
+        setting_taught(alloc, words, number)
+    } else {
+        Ok(Vec::new(alloc))
+    }
+}
+
 /// What words ask for; where they ask for nothing, they are refused.
 #[tactic(auto, using(crate::proofs::Taught::refused_setting, crate::proofs::Taught::refused_promise, crate::proofs::Taught::refused_words))]
-fn asked_of(alloc: Global, words: &[&str]) -> Result<Asked, AllocError>
-    ensures { IfOk result (IsAsked (map (λ word. word.now) words.now)) }
+fn asked_of(alloc: Global, wanted: bool, words: &[&str]) -> Result<Asked, AllocError>
+    ensures { IfOk result (IsAsked wanted (map (λ word. word.now) words.now)) }
 {
     match command_of(alloc, words) {
         Ok(request) => Ok(Asked::Known(request)),
         Err(CommandError::Memory) => Err(AllocError),
-        Err(CommandError::Setting(number)) => Ok(Asked::Unknown(setting_taught(
-            alloc, words, number,
+        Err(CommandError::Setting(number)) => Ok(Asked::Unknown(setting_told(
+            alloc, wanted, words, number,
         )?)),
         Err(CommandError::Promise(_)) => Ok(Asked::Unknown(Vec::new(alloc))),
         Err(CommandError::Words(_)) => Ok(Asked::Unknown(Vec::new(alloc))),
     }
 }
 
-/// Tells more where the status is this one.
-#[tactic(auto, using(crate::proofs::Taught::more_told, crate::proofs::Taught::nothing_told))]
-fn tell_more<E: Write>(errors: &mut E, more: &[u8], wanted: u8, status: u8)
-    ensures { IsMoreTold wanted more.now (E.contents errors.old) (E.contents errors.new) status }
+/// What is told behind words that are refused with this status.
+fn behind_words(blamed: &[u8], status: u8) -> &[u8]
+    ensures { result.now ≡ behind_words blamed.now status }
 {
-    if status == wanted {
-        let _ = write_whole(errors, more);
+    match status {
+        2 => blamed,
+        _ => &[],
     }
 }
 
 /// Runs a command whose words ask for nothing, and tells more of why.
-#[tactic(auto, using(crate::proofs::Taught::ran_more))]
 fn run_nothing<H: AllocGlobal + Threads + Wait + Sync, R: Read, W: Write, E: Write>(
     rt: &H,
     words: &[&str],
-    more: &[u8],
+    blamed: &[u8],
     input: &mut R,
     output: &mut W,
     errors: &mut E,
 ) -> u8
     ensures { let old = streams (R.remaining input.old) (W.contents output.old) (E.contents errors.old) in
         let new = streams (R.remaining input.new) (W.contents output.new) (E.contents errors.new) in
-        RunsMore 2 (map (λ word. word.now) words.now) more.now old new result }
+        RunsMore (map (λ word. word.now) words.now) (behind_words blamed.now) old new result }
 {
     let status = run_tool(rt, words, input, output, errors);
-    tell_more(errors, more, 2, status);
+    let _ = write_whole(errors, behind_words(blamed, status));
     status
 }
 
-/// Runs a command on these bytes, and tells more of their fault where it refuses them.
-#[tactic(auto, using(crate::proofs::Taught::ran_more))]
+/// What is told of a text: why it is refused, and which accesses fault where it is run.
+#[derive(Drop)]
+struct Told {
+    refused: Vec<u8>,
+    faulted: Vec<u8>,
+}
+
+impl Told {
+    /// What is told behind a run with this status.
+    fn behind(&self, status: u8) -> &[u8]
+        ensures { result.now ≡ behind_text self.now.refused.items self.now.faulted.items status }
+    {
+        match status {
+            1 => &self.refused,
+            7 => &self.faulted,
+            _ => &[],
+        }
+    }
+}
+
+/// What explains why a text is refused, where that is wanted.
+fn refusal_told(
+    alloc: Global,
+    wanted: bool,
+    request: &Request,
+    names: Names<'_>,
+    text: &[u8],
+) -> Result<Vec<u8>, AllocError>
+    ensures { IfOk result (λ more. TeachesWanted wanted (ask_of request.now) names.entry.text.now names.entry.listing.now text.now more.items) }
+{
+    if wanted {
+        taught(alloc, request, names, text)
+    } else {
+        Ok(Vec::new(alloc))
+    }
+}
+
+/// Runs a command on these bytes, and tells more of their fault where it refuses them, or of the accesses that fault in a strict run.
 fn run_on<H: AllocGlobal + Threads + Wait + Sync, W: Write, E: Write>(
     rt: &H,
     words: &[&str],
     bytes: &[u8],
-    more: &[u8],
+    told: &Told,
     output: &mut W,
     errors: &mut E,
 ) -> u8
-    ensures { (left : Option (List ℕ)) × RunsMore 1 (map (λ word. word.now) words.now) more.now
+    ensures { (left : Option (List ℕ)) × RunsMore (map (λ word. word.now) words.now) (behind_text told.now.refused.items told.now.faulted.items)
         (streams (Some bytes.now) (W.contents output.old) (E.contents errors.old))
         (streams left (W.contents output.new) (E.contents errors.new)) result }
 {
     let mut text = bytes;
     let status = run_tool(rt, words, &mut text, output, errors);
-    tell_more(errors, more, 1, status);
+    let _ = write_whole(errors, told.behind(status));
     status
 }
 
-/// Runs a command on what its source gives. Where it refuses that, it tells more of the fault. Files are read only where the words ask for
-/// something.
-#[tactic(auto, using(crate::proofs::Taught::nothing_explained, crate::proofs::Taught::bytes_explained))]
-pub fn run_explained<
-    'a,
-    H: AllocGlobal + Threads + Wait + Sync,
-    F: Folder,
-    R: Read,
-    W: Write,
-    E: Write,
->(
+/// Runs a command on what its source gives. Where it refuses that, it tells more of the fault if that is asked for, and behind a strict run
+/// the accesses that fault. Files are read only where the words ask for something.
+pub fn run_told<'a, H: AllocGlobal + Threads + Wait + Sync, F: Folder, R: Read, W: Write, E: Write>(
     rt: &H,
     folder: &F,
     words: &[String],
@@ -181,18 +230,22 @@ pub fn run_explained<
 ) -> Result<u8, Trouble<'a>>
     ensures ok { let old = streams (R.remaining input.old) (W.contents output.old) (E.contents errors.old) in
         let new = streams (R.remaining input.new) (W.contents output.new) (E.contents errors.new) in
-        IfOk result (RunsExplained (F.holds folder.now) (map string_bytes words.now) (text_source source.entry) old new) }
+        IfOk result (RunsTold (F.holds folder.now) (map string_bytes words.now) (text_source source.entry) old new) }
     ensures err { IfErr result (λ _. Keeps (W.contents output.old) (W.contents output.new)) }
     ensures silent { IfErr result (λ _. Keeps (E.contents errors.old) (E.contents errors.new)) }
     ensures why { IfErr result (IsTroubleWithSource (text_source source.entry)) }
 {
+    let explained = is_explained(words);
     let plain = plain_words(rt.alloc(), words)?;
-    match asked_of(rt.alloc(), &plain)? {
+    match asked_of(rt.alloc(), explained, &plain)? {
         Asked::Unknown(more) => Ok(run_nothing(rt, &plain, &more, input, output, errors)),
         Asked::Known(request) => {
             let bytes = given(rt.alloc(), folder, source, input)?;
-            let more = taught(rt.alloc(), &request, names_of(source), &bytes)?;
-            Ok(run_on(rt, &plain, &bytes, &more, output, errors))
+            let told = Told {
+                refused: refusal_told(rt.alloc(), explained, &request, names_of(source), &bytes)?,
+                faulted: faults_told(rt.alloc(), &request, &bytes)?,
+            };
+            Ok(run_on(rt, &plain, &bytes, &told, output, errors))
         }
     }
 }

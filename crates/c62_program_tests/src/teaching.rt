@@ -1,4 +1,4 @@
-//! Runs of `lint`, of `explain`, and of commands with `--explain`.
+//! Runs of `lint`, of `explain`, and of commands with `--explain` or `--strict`.
 
 ghost use Rattle.std.specs.Prelude.{None};
 
@@ -41,7 +41,7 @@ const UNKNOWN: &str = "-:1:2: error: UnknownMnemonic: a mnemonic is wanted here\
 const TWICE: &str = "  add .l1 a1,a2,a3\n||  sub .l1 a4,a5,a6\n";
 
 /// Words, standard input, and the output, what is told and the status.
-const RUNS: [(&[&str], &str, &str, &str, u8); 34] = [
+const RUNS: [(&[&str], &str, &str, &str, u8); 41] = [
     (&["lint"], "MVK 1,A1\n", "", "", 0),
     (&["lint"], " FOO\n", UNKNOWN, "", 1),
     (&["lint", "--most", "1"], " FOO\n BAR\n", UNKNOWN, "", 1),
@@ -183,6 +183,58 @@ const RUNS: [(&[&str], &str, &str, &str, u8); 34] = [
         "",
         "text line 1: UnknownMnemonic\n --> -:1:1\n1 | FOO\n  | ^^^ a mnemonic is wanted here\n",
         1,
+    ),
+    // each line's first access that faults, behind the report
+    (
+        &["serial", "--strict", "A4=1"],
+        "LDH *A4,A5\n",
+        "blocks 1\nexit end\nA4 00000001\nfault 1\n",
+        "line 1: LDH reads 2 bytes at 0x1, no multiple of 2\n",
+        7,
+    ),
+    (
+        &["run", "--turns", "--strict", "--explain", "A4=0x10000"],
+        "STB A5,*A4\n",
+        "blocks 1\ncycles 1\nexit end\nA4 00010000\nfault 1\n",
+        "line 1: STB writes 1 byte at 0x10000, past the end of memory\n",
+        7,
+    ),
+    // without `--strict`, or of packets, nothing is told
+    (
+        &["serial", "--explain", "A4=1"],
+        "LDH *A4,A5\n",
+        "blocks 1\nexit end\nA4 00000001\nfault 1\n",
+        "",
+        0,
+    ),
+    (
+        &["sim", "--packets", "--strict", "A4=1"],
+        " LDH .D1 *A4,A5\n NOP 4\n",
+        "blocks 1\ncycles 5\nexit end\nA4 00000001\nfault 1\n",
+        "",
+        7,
+    ),
+    (
+        &["run", "--strict", "--blocks", "2"],
+        "L: B L\n",
+        "blocks 2\ncycles 12\nexit limit\n",
+        "",
+        6,
+    ),
+    // nothing is explained where only `--strict` stands
+    (
+        &["run", "--strict"],
+        " FOO\n",
+        "",
+        "line 1: UnknownMnemonic\n",
+        1,
+    ),
+    (
+        &["serial", "--strict", "A1=zz"],
+        "",
+        "",
+        "setting 1: bad\n",
+        2,
     ),
     (
         &["explain", "p2"],

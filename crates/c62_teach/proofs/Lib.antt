@@ -1,4 +1,5 @@
 pub mod Most
 pub mod Listed
 pub mod Refusals
+pub mod Reported
 pub mod Values

@@ -1,4 +1,5 @@
 pub mod Words
 pub mod Linted
 pub mod Taught
+pub mod Faulted
 pub mod Setting

@@ -1,4 +1,4 @@
--- What the words of `lint` ask for, and which words ask for explanations (docs/FAULTS.md).
+-- What the words of `lint` ask for, and which words ask for explanations (docs/FAULTS.md) or for a strict run.
 use Rattle.std.specs.Prelude.{ℕ, ℤ, pos, int_le, unsigned_abs, Bool, false, ◌&&◌, ◌||◌, List, [], ◌∷◌, Option, Some, None, option_map, option_and_then, codes, if◌then◌else◌}
 use Rattle.std.specs.List.{flat_map, list_any}
 use Rattle.std.specs.Str.{bytes_eq}
@@ -84,3 +84,17 @@ plain_word word = if bytes_eq word (codes "--explain") then [] else word ∷ []
 -- the words without it
 abbrev pub plain_words : List Text → List Text
 plain_words words = flat_map plain_word words
+
+-- ---- `--strict`
+
+-- the commands that run serial text
+abbrev pub runs_serial : Text → Bool
+runs_serial command = bytes_eq command (codes "run") || bytes_eq command (codes "serial")
+
+abbrev pub asks_strict : List Text → Bool
+asks_strict words = list_any (λ word. bytes_eq word (codes "--strict")) words
+
+-- one of these, and `--strict` behind it
+abbrev pub is_strict : List Text → Bool
+is_strict [] = false
+is_strict (command ∷ words) = runs_serial command && asks_strict words

@@ -1,6 +1,8 @@
-//! What `lint` answers, and what `--explain` tells behind the line that refuses a text.
+//! What `lint` answers, what `--explain` tells behind the line that refuses a text, and `--strict` behind the report of a run.
 #![tactic(auto)]
 
+mod faults;
+pub mod laws;
 mod linted;
 mod other;
 mod packets;
@@ -9,7 +11,8 @@ mod teaching;
 mod words;
 
 pub use c62_explain_packets::Linted;
+pub use faults::faults_told;
 pub use linted::lint_text;
 pub use settings::setting_taught;
 pub use teaching::{Names, taught};
-pub use words::{Kind, Linting, is_explained, is_lint, linting_of, plain_words};
+pub use words::{Kind, Linting, is_explained, is_lint, is_strict, linting_of, plain_words};

@@ -3,7 +3,7 @@
 ghost use Rattle.std.specs.Prelude.{◌≡◌, ◌≤◌, IfOk, IfSome, OnOk, ◌++◌, codes, map, string_bytes};
 ghost use Rattle.std.specs.List.{list_any};
 ghost use Rattle.std.specs.Str.{bytes_eq};
-ghost use Rattle.c62_teach.specs.Words.{behind_first, changed, explains, is_answered, is_explained, is_lint, kind_of, linting_by, linting_of, most_by, most_of, plain_word, plain_words};
+ghost use Rattle.c62_teach.specs.Words.{asks_strict, behind_first, changed, explains, is_answered, is_explained, is_lint, kind_of, linting_by, linting_of, most_by, most_of, is_strict, plain_word, plain_words, runs_serial};
 
 use c62_token::number::number;
 use std::alloc::{AllocError, Global};
@@ -164,6 +164,36 @@ pub fn is_explained(words: &[String]) -> bool
     match words {
         [] => false,
         [command, rest @ ..] => is_answered(command.as_str()) && explains(rest),
+    }
+}
+
+/// Whether serial text is run for this command.
+fn runs_serial(command: &str) -> bool
+    ensures { result ≡ runs_serial command.now }
+{
+    command == "run" || command == "serial"
+}
+
+/// Whether a word is `--strict`.
+fn has_strict(words: &[String]) -> bool
+    ensures { result ≡ list_any (λ word. bytes_eq (string_bytes word) (codes "--strict")) words.now }
+{
+    words.iter().any(|word| word.as_str() == "--strict")
+}
+
+fn asks_strict(words: &[String]) -> bool
+    ensures { result ≡ asks_strict (map string_bytes words.now) }
+{
+    has_strict(words)
+}
+
+/// Whether the words ask for a strict run of serial text.
+pub fn is_strict(words: &[String]) -> bool
+    ensures { result ≡ is_strict (map string_bytes words.now) }
+{
+    match words {
+        [] => false,
+        [command, rest @ ..] => runs_serial(command.as_str()) && asks_strict(rest),
     }
 }
 
