@@ -1,4 +1,4 @@
-//! The tests of checks.
+//! The tests of checks, and of loops that are pipelined where a check allows it.
 
 #![tactic(auto)]
 
@@ -8,6 +8,8 @@ mod check;
 mod check_loops;
 #[cfg(test)]
 mod check_rest;
+#[cfg(test)]
+mod pipeline;
 #[cfg(test)]
 mod standing;
 #[cfg(test)]
