@@ -10,7 +10,7 @@ use Rattle.c62_loop.specs.Loop.{Region, Pipelined, serial_path, trips_of, epilog
 use Rattle.c62_loop.specs.Loop.{cycles_of}
 use Rattle.c62_loop.specs.Whole.{AreApart}
 use Rattle.c62_loop.proofs.Passes.{end_from}
-use Rattle.c62_loop.proofs.Whole.{pipelined_for_all_trips}
+use Rattle.c62_loop.proofs.Exact.{pipelined_for_all_trips}
 use Rattle.c62_loop_match.specs.Decide.{Decided}
 use Rattle.c62_check_loop.specs.Laws.{SameIsSerial}
 

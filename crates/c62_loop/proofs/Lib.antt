@@ -34,3 +34,8 @@ pub mod SumSteps
 pub mod Sums
 pub mod Rounds
 pub mod Past
+pub mod Core
+pub mod Exact
+pub mod PastParts
+pub mod PastLater
+pub mod Collapsed

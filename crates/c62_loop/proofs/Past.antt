@@ -2,7 +2,7 @@
 use Rattle.std.proofs.Common.{◌≡◌, ℕ, Bool, true, false, List, [], ◌∷◌, ◌++◌, Option, Some, None, refl, sym, ◌∙◌, ap}
 use Rattle.std.proofs.Common.{subst, ◌⊎◌, inl, inr}
 use Rattle.std.specs.Prelude.{Contains}
-use Rattle.std.proofs.lemmas.Bool.{cond-false, cond_both}
+use Rattle.std.proofs.lemmas.Bool.{cond-false, cond_both, false≢true}
 use Rattle.std.proofs.lemmas.List.{append_assoc}
 use Rattle.std.proofs.lemmas.Option.{same_Some}
 use Rattle.c62_op.specs.declared.register.Reg.{Reg}
@@ -23,7 +23,7 @@ use Rattle.c62_serial.proofs.FaultLemmas.{joined_holds}
 use Rattle.c62_meaning.proofs.Lookup.{In, In_from_Contains, Contains_from_In}
 use Rattle.c62_meaning.proofs.Landings.{act_writes}
 use Rattle.c62_loop.specs.Loop.{Region, rounds, serial_path, Pipelined}
-use Rattle.c62_loop.specs.Past.{IsSameBut, with_past, PipelinedPastTheEnd}
+use Rattle.c62_loop.specs.Past.{is_access, IsSameBut, with_past, PipelinedPastTheEnd}
 use Rattle.c62_loop.proofs.Machines.{machine_after, serial_machine, In-All}
 use Rattle.c62_loop.proofs.Apart.{kept}
 use Rattle.c62_loop.proofs.Counting.{after_both}
@@ -63,10 +63,26 @@ fault_kept : (lines : List ℕ) (line other : ℕ) (b : Bool) → Contains lines
 fault_kept lines line other true c = (joined_holds lines line other).1 (inr c)
 fault_kept lines line other false c = c
 
-fault_new : (lines : List ℕ) (line other : ℕ) (b : Bool) → Contains (after_fault lines line b) other → (other ≡ line)
-    ⊎ Contains lines other
-fault_new lines line other true c = (joined_holds lines line other).0 c
+fault_new : (lines : List ℕ) (line other : ℕ) (b : Bool) → Contains (after_fault lines line b) other
+    → ((other ≡ line) × (b ≡ true)) ⊎ Contains lines other
+fault_new lines line other true c = elim ((joined_holds lines line other).0 c)
+    [ inl e ↦ inl (e, refl) | inr old ↦ inr old ]
 fault_new lines line other false c = inr c
+
+-- what faults is an access
+accesses : (entry : SerialInsn) (machine : Machine) → is_fault (act_in machine entry).access ≡ true
+    → is_access (operands_of entry.insn) ≡ true
+accesses entry machine =
+    cond_both (runs (word_in machine) entry.insn)
+    (act_on entry.insn (operand_values (word_in machine) entry.insn) (byte_in machine)) no_act
+    (λ (act : Act). is_fault act.access ≡ true → is_access (operands_of entry.insn) ≡ true)
+    (λ _. of_operands (op_of entry.insn) (operands_of entry.insn) (operand_values (word_in machine) entry.insn))
+    (λ _ h. absurd (false≢true h))
+  where
+    of_operands : (op : Op) (operands : Operands) (reads : List ℕ) → is_fault (access_of op operands reads) ≡ true
+        → is_access operands ≡ true
+    of_operands op (Access reg base form offset) reads h = refl
+    of_operands op _ reads h = cc
 
 word_kept : (entry : SerialInsn) (machine : Machine) (reg : Reg)
     → ((delay : ℕ) → Contains (register_writes entry.insn) (reg, delay) → ⊥)
@@ -102,10 +118,10 @@ same_but (entry ∷ past) machine none =
           (fault_kept machine.faults entry.line line (is_fault (act_in machine entry).access) c);
       faults = λ line c. elim (rest.faults line c) [
         | inl old ↦ elim (fault_new machine.faults entry.line line (is_fault (act_in machine entry).access) old) [
-          | inl e ↦ inr (entry, first_of entry past, sym e)
+          | inl e ↦ inr (entry, first_of entry past, sym e.0, accesses entry machine e.1)
           | inr older ↦ inl older
         ]
-        | inr new ↦ inr (new.0, later_of entry new.0 past new.1, new.2)
+        | inr new ↦ inr (new.0, later_of entry new.0 past new.1, new.2, new.3)
       ];
     }
 

@@ -1,28 +1,30 @@
 -- Parts of a path whose instances are placed.
-use Rattle.std.proofs.Common.{◌≡◌, ℕ, zero, suc, ◌+◌, ◌<◌, ◌≤◌, cond, ltb, List, map, length, sym, ◌∙◌, ap, ⊎_elim}
+use Rattle.std.proofs.Common.{◌≡◌, ℕ, zero, suc, ◌+◌, ◌<◌, ◌≤◌, cond, ltb, List, ◌++◌, length, sym, ◌∙◌, ap, ⊎_elim}
 use Rattle.std.proofs.Common.{arith}
 use Rattle.std.specs.Prelude.{slice_get}
 use Rattle.std.proofs.lemmas.Bool.{cases_lt, cond-true, cond-false, lt-ltb, le-ltb}
 use Rattle.std.proofs.lemmas.List.{length-map}
 use Rattle.c62_packet.specs.declared.placed.Placed.{Placed}
-use Rattle.c62_meaning.specs.Cut.{moved}
-use Rattle.c62_loop.specs.Stage.{Schedule, cycles_in, instance_of, round_of, rounds_from, placed_of, Straights, Places}
+use Rattle.c62_loop.specs.Stage.{Schedule, instance_of, round_of, rounds_from, Straights, Places}
 use Rattle.c62_loop.proofs.Lists.{get_front, get_back}
 use Rattle.c62_loop.proofs.Parts.{rows, begin, part, part_body}
 
-abbrev pub placed_part : Schedule → ℕ → ℕ → ℕ → List Placed
-placed_part schedule trips passes zero = schedule.before
-placed_part schedule trips passes (suc t) = cond (ltb t trips) (round_of schedule passes t)
-    (map (moved (cycles_in schedule.interval passes)) schedule.behind)
+-- the instances of so many iterations, and these behind them
+abbrev pub placed_with : Schedule → ℕ → ℕ → List Placed → List Placed
+placed_with schedule trips passes behind = schedule.before ++ rounds_from schedule passes 0 trips behind
+
+abbrev pub placed_part : Schedule → ℕ → ℕ → List Placed → ℕ → List Placed
+placed_part schedule trips passes behind zero = schedule.before
+placed_part schedule trips passes behind (suc t) = cond (ltb t trips) (round_of schedule passes t) behind
 
 module _ (schedule : Schedule) where
-  pub placed_body : (trips passes t : ℕ) → t < trips
-      → placed_part schedule trips passes (suc t) ≡ round_of schedule passes t
-  placed_body trips passes t l = cond-true _ _ _ (lt-ltb t trips l)
+  pub placed_body : (trips passes : ℕ) (behind : List Placed) (t : ℕ) → t < trips
+      → placed_part schedule trips passes behind (suc t) ≡ round_of schedule passes t
+  placed_body trips passes behind t l = cond-true _ _ _ (lt-ltb t trips l)
 
-  pub placed_behind : (trips passes t : ℕ) → trips ≤ t
-      → placed_part schedule trips passes (suc t) ≡ map (moved (cycles_in schedule.interval passes)) schedule.behind
-  placed_behind trips passes t l = cond-false _ _ _ (le-ltb t trips l)
+  pub placed_behind : (trips passes : ℕ) (behind : List Placed) (t : ℕ) → trips ≤ t
+      → placed_part schedule trips passes behind (suc t) ≡ behind
+  placed_behind trips passes behind t l = cond-false _ _ _ (le-ltb t trips l)
 
 module _ (straights : Straights) (schedule : Schedule) (most : ℕ) (places : Places straights schedule most) where
   round_length : (passes t : ℕ) → length (round_of schedule passes t) ≡ length straights.body
@@ -59,38 +61,39 @@ module _ (straights : Straights) (schedule : Schedule) (most : ℕ) (places : Pl
       (omega arith)
       ∙ placed_end passes (suc from) trips a behind
 
-  pub placed_at : (trips passes s a : ℕ) → s ≤ suc trips → a < length (part straights trips s)
-      → slice_get (placed_of schedule trips passes) (begin straights s + a) ≡ slice_get
-      (placed_part schedule trips passes s) a
-  placed_at trips passes zero a l u =
+  pub placed_at : (trips passes : ℕ) (behind : List Placed) (s a : ℕ) → s ≤ suc trips → a < length
+      (part straights trips s)
+      → slice_get (placed_with schedule trips passes behind) (begin straights s + a) ≡ slice_get
+      (placed_part schedule trips passes behind s) a
+  placed_at trips passes behind zero a l u =
       let n : length schedule.before ≡ length straights.before = places.before in
       let e : 0 + a ≡ a = omega arith in
-      ap (λ n. slice_get (placed_of schedule trips passes) n) e
+      ap (λ n. slice_get (placed_with schedule trips passes behind) n) e
       ∙ get_front schedule.before
-      (rounds_from schedule passes 0 trips (map (moved (cycles_in schedule.interval passes)) schedule.behind)) a
+      (rounds_from schedule passes 0 trips behind) a
       (omega arith)
-  placed_at trips passes (suc t) a l u =
+  placed_at trips passes behind (suc t) a l u =
       let n : length schedule.before ≡ length straights.before = places.before in
       get_back schedule.before
-      (rounds_from schedule passes 0 trips (map (moved (cycles_in schedule.interval passes)) schedule.behind))
+      (rounds_from schedule passes 0 trips behind)
       (length straights.before + rows (length straights.body) t + a) (rows (length straights.body) t + a)
       (omega arith)
       ∙ ⊎_elim {C = slice_get
-      (rounds_from schedule passes 0 trips (map (moved (cycles_in schedule.interval passes)) schedule.behind))
-      (rows (length straights.body) t + a) ≡ slice_get (placed_part schedule trips passes (suc t)) a}
+      (rounds_from schedule passes 0 trips behind)
+      (rows (length straights.body) t + a) ≡ slice_get (placed_part schedule trips passes behind (suc t)) a}
       (λ (k : t < trips).
       let n : length (part straights trips (suc t)) ≡ length straights.body =
       ap length (part_body straights trips t k) in
       let z : 0 + t ≡ t = omega arith in
-      placed_rounds passes 0 trips t a (map (moved (cycles_in schedule.interval passes)) schedule.behind) k
+      placed_rounds passes 0 trips t a behind k
       (omega arith)
       ∙ ap (λ n. slice_get (round_of schedule passes n) a) z
-      ∙ ap (λ xs. slice_get xs a) (sym (placed_body schedule trips passes t k)))
+      ∙ ap (λ xs. slice_get xs a) (sym (placed_body schedule trips passes behind t k)))
       (λ (k : trips ≤ t).
       let e : t ≡ trips = omega arith in
       ap (λ n. slice_get (rounds_from schedule passes 0 trips
-      (map (moved (cycles_in schedule.interval passes)) schedule.behind))
+      behind)
       (rows (length straights.body) n + a)) e
-      ∙ placed_end passes 0 trips a (map (moved (cycles_in schedule.interval passes)) schedule.behind)
-      ∙ ap (λ xs. slice_get xs a) (sym (placed_behind schedule trips passes t k)))
+      ∙ placed_end passes 0 trips a behind
+      ∙ ap (λ xs. slice_get xs a) (sym (placed_behind schedule trips passes behind t k)))
       (cases_lt t trips)

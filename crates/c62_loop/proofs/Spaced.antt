@@ -1,8 +1,7 @@
 -- Instances of a pipelined loop keep their distances, in any number of passes.
-use Rattle.std.proofs.Common.{Bool, true, ◌≡◌, ℕ, ◌+◌, ◌^◌, ◌<◌, ◌≤◌, pos, ◌+ℤ◌, ◌≤ℤ◌, List, ◌++◌, map, length, get_or}
-use Rattle.std.proofs.Common.{Some, refl, sym, ◌∙◌, ap, subst, ◌⊎◌, inl, inr, ⊎_elim, arith, ℤ}
+use Rattle.std.proofs.Common.{Bool, true, ◌≡◌, ℕ, ◌+◌, ◌^◌, ◌<◌, pos, ◌+ℤ◌, ◌≤ℤ◌, List, ◌++◌, map, length, get_or}
+use Rattle.std.proofs.Common.{Some, refl, sym, ◌∙◌, ap, subst, ◌⊎◌, inl, inr, arith, ℤ}
 use Rattle.std.specs.Prelude.{slice_get, option_map}
-use Rattle.std.proofs.lemmas.Bool.{cases_lt}
 use Rattle.std.proofs.lemmas.Option.{same_Some, slice_get-map, slice_get-get_or, slice_get_within}
 use Rattle.c62_op.specs.declared.register.Reg.{Reg}
 use Rattle.c62_insn.specs.declared.insn.Insn.{Insn}
@@ -10,18 +9,17 @@ use Rattle.c62_rules.specs.Dependence.{IsBound}
 use Rattle.c62_read.specs.declared.block.SerialInsn.{SerialInsn}
 use Rattle.c62_serial.specs.State.{Machine, IsSound}
 use Rattle.c62_packet.specs.declared.placed.Placed.{Placed}
-use Rattle.c62_meaning.specs.Cut.{moved}
 use Rattle.c62_meaning.specs.Instances.{IsOfData, IsOfMemory, DataBounds, MetBounds}
 use Rattle.c62_meaning.specs.Laws.{StandsAs}
 use Rattle.c62_meaning.proofs.Instances.{no_entry}
 use Rattle.c62_loop.specs.Counter.{work_of}
 use Rattle.c62_loop.specs.Loop.{Region, loop_path, trips_of, Pipelined, interval}
-use Rattle.c62_loop.specs.Stage.{cycles_in, rounds_from, AreParted, KeepDistances}
-use Rattle.c62_loop.specs.Whole.{insns_in, work_path, work_insns, entry_of, IsInTurn, AreApart, IsPipelining}
+use Rattle.c62_loop.specs.Stage.{AreParted, KeepDistances}
+use Rattle.c62_loop.specs.Whole.{insns_in, work_path, work_insns, entry_of, IsInTurn, AreApart}
 use Rattle.c62_loop.proofs.Lists.{at_place, get_cases, get_front, get_back, front_at, from_mapped}
 use Rattle.c62_loop.proofs.Between.{asked_there}
-use Rattle.c62_loop.proofs.Kept.{kept_in_more_passes}
-use Rattle.c62_loop.proofs.Standing.{insns_are, stand_at, work_places}
+use Rattle.c62_loop.proofs.Core.{Core}
+use Rattle.c62_loop.proofs.Standing.{insns_are, stand_at}
 use Rattle.c62_loop.proofs.PassControl.{control_of}
 use Rattle.c62_loop.proofs.Turning.{turn_at, control_turn}
 use Rattle.c62_loop.proofs.Asked.{turn_keeps, work_free, begin_keeps, behind_each}
@@ -29,7 +27,7 @@ use Rattle.c62_loop.proofs.WorkAlone.{Alone, insn_same, same_before, is_control,
 use Rattle.c62_loop.proofs.WorkAlone.{is_work, meet_alone, in_order, between}
 
 module _ (promised : Insn → Insn → Bool) (region : Region) (loop : Pipelined) (most passes : ℕ)
-    (m : IsPipelining promised region loop most) (some : 0 < passes) (opening : Machine) (sound : IsSound opening)
+    (m : Core promised region loop most passes) (some : 0 < passes) (opening : Machine) (sound : IsSound opening)
     (begins : trips_of region opening ≡ most + passes) (small : most + passes < 2 ^ 32)
     (promise : AreApart promised region (most + passes) opening) where
   abbrev counter : Reg
@@ -55,10 +53,10 @@ module _ (promised : Insn → Insn → Bool) (region : Region) (loop : Pipelined
   alone = work_path region trips
 
   abbrev before : List Placed
-  before = m.schedule.before
+  before = m.before
 
   abbrev rest : List Placed
-  rest = rounds_from m.schedule passes 0 trips (map (moved (cycles_in m.schedule.interval passes)) m.schedule.behind)
+  rest = m.rest
 
   -- ---- where a number lies
 
@@ -83,13 +81,7 @@ module _ (promised : Insn → Insn → Bool) (region : Region) (loop : Pipelined
   -- ---- distances
 
   all_keep : KeepDistances promised (work_insns region) trips (before ++ rest)
-  all_keep =
-      ⊎_elim {C = KeepDistances promised (work_insns region) trips (before ++ rest)}
-      (λ (l : passes < most + 3). m.keeps passes some (omega arith))
-      (λ (l : most + 3 ≤ passes). kept_in_more_passes promised (work_insns region) m.schedule most
-      (work_places region m.schedule most passes m.before m.body m.behind)
-      (m.keeps (most + 3) (omega arith) (omega arith)) passes l)
-      (cases_lt passes (most + 3))
+  all_keep = m.keeps
 
   -- the same, of any spelling of the path
   abbrev KeepOn : List Insn → Type 0
@@ -128,7 +120,7 @@ module _ (promised : Insn → Insn → Bool) (region : Region) (loop : Pipelined
       begins small in
       let l : i < length before = slice_get_within before i p here in
       let at : slice_get region.before i ≡ Some entry = slice_get-get_or region.before i no_entry (omega arith) in
-      let stands : StandsAs entry p = stand_at region.before before m.before i entry p at here in
+      let stands : StandsAs entry p = stand_at region.before before m.stand_before i entry p at here in
       let one : entry.insn ≡ met.bounds.bounds.first = same_Some entry.insn met.bounds.bounds.first
       (sym (insn_same path region.before i i (get_front region.before (entries ++ work) i (omega arith))
       ∙ slice_get-map (λ (x : SerialInsn). x.insn) region.before i

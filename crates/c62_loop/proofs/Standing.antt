@@ -15,12 +15,12 @@ use Rattle.c62_loop.specs.Counter.{touches, work_of}
 use Rattle.c62_loop.specs.Loop.{Region, rounds, loop_path}
 use Rattle.c62_loop.specs.Stage.{Stage, Schedule, cycles_in, instance_of, round_of, rounds_from, rounds_with}
 use Rattle.c62_loop.specs.Stage.{insns_of, Places}
-use Rattle.c62_loop.specs.Whole.{StandFor, IsStageOf, AreStagesOf, insns_in, work_path, work_insns}
+use Rattle.c62_loop.specs.Whole.{StandFor, AreStagesOf, insns_in, work_path, work_insns}
 
 -- ---- work
 
 module _ (counter : Reg) where
-  work_both : (xs ys : List SerialInsn) → work_of counter (xs ++ ys) ≡ work_of counter xs ++ work_of counter ys
+  pub work_both : (xs ys : List SerialInsn) → work_of counter (xs ++ ys) ≡ work_of counter xs ++ work_of counter ys
   work_both xs ys = filter-append (λ (entry : SerialInsn). not (touches counter entry)) xs ys
 
   work_rounds : (body behind : List SerialInsn) (trips : ℕ)
@@ -80,7 +80,7 @@ stand_both (x ∷ xs) ys (p ∷ ps) qs h k = (h.0, stand_both xs ys ps qs h.1 k)
 stands_moved : (k : ℕ) (entry : SerialInsn) (p : Placed) → StandsAs entry p → StandsAs entry (moved k p)
 stands_moved k entry p h = record { insn = h.insn; line = h.line }
 
-stand_moved : (k : ℕ) (entries : List SerialInsn) (placed : List Placed) → StandFor entries placed
+pub stand_moved : (k : ℕ) (entries : List SerialInsn) (placed : List Placed) → StandFor entries placed
     → StandFor entries (map (moved k) placed)
 stand_moved k [] [] h = h
 stand_moved k [] (p ∷ placed) h = absurd h
@@ -98,8 +98,28 @@ stands_in entry ps i d all h =
     ⊎_elim {C = StandsAs entry (get_or ps i d)} (λ (l : i < length ps). all i d l)
     (λ (l : length ps ≤ i). subst (λ x. StandsAs entry x) (sym (past ps i d l)) h) (cases_lt i (length ps))
 
-module _ (most interval passes : ℕ) where
-  instance_stands : (entry : SerialInsn) (stage : Stage) (t : ℕ) → IsStageOf most entry stage
+-- each instance of a stage stands for the instruction
+pub record IsOf (entry : SerialInsn) (stage : Stage) : Type 0 where
+  pub early : All (StandsAs entry) stage.early
+  pub kernel : StandsAs entry stage.kernel
+  pub late : All (StandsAs entry) stage.late
+
+abbrev pub AreOf : List SerialInsn → List Stage → Type 0
+AreOf [] [] = Unit {0}
+AreOf [] (stage ∷ stages) = ⊥
+AreOf (entry ∷ entries) [] = ⊥
+AreOf (entry ∷ entries) (stage ∷ stages) = IsOf entry stage × AreOf entries stages
+
+pub stages_of : (most : ℕ) (entries : List SerialInsn) (stages : List Stage) → AreStagesOf most entries stages
+    → AreOf entries stages
+stages_of most [] [] h = h
+stages_of most [] (s ∷ stages) h = absurd h
+stages_of most (e ∷ entries) [] h = absurd h
+stages_of most (e ∷ entries) (s ∷ stages) h =
+    (record { early = h.0.early; kernel = h.0.kernel; late = h.0.late }, stages_of most entries stages h.1)
+
+module _ (interval passes : ℕ) where
+  pub instance_stands : (entry : SerialInsn) (stage : Stage) (t : ℕ) → IsOf entry stage
       → StandsAs entry (instance_of interval passes t stage)
   instance_stands entry stage t h =
       cond_both (ltb t (length stage.early)) (get_or stage.early t stage.kernel)
@@ -117,7 +137,7 @@ module _ (most interval passes : ℕ) where
       behind : Placed
       behind = moved (cycles_in interval passes) (get_or stage.late (t - (length stage.early + passes)) stage.kernel)
 
-  round_stands : (entries : List SerialInsn) (stages : List Stage) (t : ℕ) → AreStagesOf most entries stages
+  round_stands : (entries : List SerialInsn) (stages : List Stage) (t : ℕ) → AreOf entries stages
       → StandFor entries (map (instance_of interval passes t) stages)
   round_stands [] [] t h = h
   round_stands [] (s ∷ stages) t h = absurd h
@@ -139,38 +159,36 @@ stages_early most (e ∷ entries) (s ∷ stages) h zero d l = let even : length 
     omega arith
 stages_early most (e ∷ entries) (s ∷ stages) h (suc k) d l = stages_early most entries stages h.1 k d (omega arith)
 
+-- The work of so many iterations, and what stands behind them.
+module _ (region : Region) (schedule : Schedule) (passes : ℕ)
+    (body : AreOf (work_of region.counter region.body) schedule.stages) (behind : List Placed)
+    (stands : StandFor (work_of region.counter region.behind) behind) where
+  rounds_stand : (from trips : ℕ)
+      → StandFor (rounds_with (work_of region.counter region.body) trips (work_of region.counter region.behind))
+      (rounds_from schedule passes from trips behind)
+  rounds_stand from zero = stands
+  rounds_stand from (suc trips) =
+      stand_both (work_of region.counter region.body)
+      (rounds_with (work_of region.counter region.body) trips (work_of region.counter region.behind))
+      (round_of schedule passes from) (rounds_from schedule passes (suc from) trips behind)
+      (round_stands schedule.interval passes (work_of region.counter region.body) schedule.stages from body)
+      (rounds_stand (suc from) trips)
+
+  pub later_stand : (trips : ℕ) → StandFor (work_of region.counter (loop_path region trips))
+      (rounds_from schedule passes 0 trips behind)
+  later_stand trips =
+      subst (λ xs. StandFor xs (rounds_from schedule passes 0 trips behind))
+      (sym (work_rounds region.counter region.body region.behind trips)) (rounds_stand 0 trips)
+
 module _ (region : Region) (schedule : Schedule) (most passes : ℕ)
     (before : StandFor region.before schedule.before)
     (body : AreStagesOf most (work_of region.counter region.body) schedule.stages)
     (behind : StandFor (work_of region.counter region.behind) schedule.behind) where
-  rounds_stand : (from trips : ℕ)
-      → StandFor (rounds_with (work_of region.counter region.body) trips (work_of region.counter region.behind))
-      (rounds_from schedule passes from trips (map (moved (cycles_in schedule.interval passes)) schedule.behind))
-  rounds_stand from zero = stand_moved (cycles_in schedule.interval passes) (work_of region.counter region.behind)
-      schedule.behind behind
-  rounds_stand from (suc trips) =
-      stand_both (work_of region.counter region.body)
-      (rounds_with (work_of region.counter region.body) trips (work_of region.counter region.behind))
-      (round_of schedule passes from)
-      (rounds_from schedule passes (suc from) trips (map (moved (cycles_in schedule.interval passes)) schedule.behind))
-      (round_stands most schedule.interval passes (work_of region.counter region.body) schedule.stages from body)
-      (rounds_stand (suc from) trips)
-
-  -- the work of so many iterations and of what stands behind them
-  pub later_stand : (trips : ℕ) → StandFor (work_of region.counter (loop_path region trips))
-      (rounds_from schedule passes 0 trips (map (moved (cycles_in schedule.interval passes)) schedule.behind))
-  later_stand trips =
-      subst (λ xs. StandFor xs (rounds_from schedule passes 0 trips
-      (map (moved (cycles_in schedule.interval passes)) schedule.behind)))
-      (sym (work_rounds region.counter region.body region.behind trips)) (rounds_stand 0 trips)
-
   pub work_places : Places (work_insns region) schedule most
   work_places = record {
     before = stand_count region.before schedule.before before
         ∙ sym (length-map region.before (λ (entry : SerialInsn). entry.insn));
     body = stages_count most (work_of region.counter region.body) schedule.stages body
         ∙ sym (length-map (work_of region.counter region.body) (λ (entry : SerialInsn). entry.insn));
-    behind = stand_count (work_of region.counter region.behind) schedule.behind behind
-        ∙ sym (length-map (work_of region.counter region.behind) (λ (entry : SerialInsn). entry.insn));
     early = stages_early most (work_of region.counter region.body) schedule.stages body;
   }

@@ -1,16 +1,17 @@
 -- Two places of a path keep their distance with a pass more, whether they stay or come later.
-use Rattle.std.proofs.Common.{Bool, true, ◌≡◌, ℕ, suc, ◌+◌, ◌-◌, ◌<◌, ◌≤◌, ℤ, pos, ◌+ℤ◌, ◌≤ℤ◌, length, Some, sym, ◌∙◌}
+use Rattle.std.proofs.Common.{Bool, true, ◌≡◌, ℕ, suc, ◌+◌, ◌-◌, ◌<◌, ◌≤◌, ℤ, pos, ◌+ℤ◌, ◌≤ℤ◌, List, length, Some}
+use Rattle.std.proofs.Common.{sym, ◌∙◌}
 use Rattle.std.proofs.Common.{ap, subst, ◌⊎◌, inl, inr, arith}
 use Rattle.std.specs.Prelude.{slice_get}
 use Rattle.std.proofs.lemmas.Int.{ints}
 use Rattle.c62_insn.specs.declared.insn.Insn.{Insn}
 use Rattle.c62_packet.specs.declared.placed.Placed.{Placed}
 use Rattle.c62_meaning.specs.Instances.{IsOfMemory, DataBounds}
-use Rattle.c62_loop.specs.Stage.{Schedule, placed_of, Straights, insns_of, begin_of, AreParted, KeepDistances, Places}
+use Rattle.c62_loop.specs.Stage.{Schedule, Straights, insns_of, begin_of, AreParted, KeepDistances, Places}
 use Rattle.c62_loop.proofs.Parts.{begin, part, part_body, part_next, part_same, begin_is, begins_rise, below, in_order}
 use Rattle.c62_loop.proofs.Parts.{comes_behind}
-use Rattle.c62_loop.proofs.PlacedParts.{placed_part, placed_at}
-use Rattle.c62_loop.proofs.LaterPlaces.{Stays, Comes, stays_or, comes_or}
+use Rattle.c62_loop.proofs.PlacedParts.{placed_with, placed_part, placed_at}
+use Rattle.c62_loop.proofs.LaterPlaces.{ComeLater, Stays, Comes, stays_or, comes_or}
 use Rattle.c62_loop.proofs.FewerPasses.{Covered, within_small, asked_small}
 
 -- as many cycles later on the right
@@ -25,35 +26,36 @@ excused : (promised : Insn → Insn → Bool) (one two p q : Insn) → p ≡ one
 excused promised one two p q e f t = subst (λ x. promised x two ≡ true) e (subst (λ x. promised p x ≡ true) f t)
 
 module _ (straights : Straights) (schedule : Schedule) (most : ℕ) (places : Places straights schedule most)
-    (trips passes : ℕ) where
+    (trips passes : ℕ) (behind : List Placed) where
   placed_small : (t c : ℕ) (p : Placed) → t ≤ suc trips → c < length (part straights trips t)
-      → slice_get (placed_part schedule trips passes t) c ≡ Some p
-      → slice_get (placed_of schedule trips passes) (begin straights t + c) ≡ Some p
-  placed_small t c p l u e = placed_at straights schedule most places trips passes t c l u ∙ e
+      → slice_get (placed_part schedule trips passes behind t) c ≡ Some p
+      → slice_get (placed_with schedule trips passes behind) (begin straights t + c) ≡ Some p
+  placed_small t c p l u e = placed_at straights schedule most places trips passes behind t c l u ∙ e
 
 module _ (straights : Straights) (schedule : Schedule) (most : ℕ) (places : Places straights schedule most)
-    (trips passes : ℕ) (many : most + passes ≡ trips) (enough : most + 3 ≤ passes)
-    (promised : Insn → Insn → Bool)
-    (keeps : KeepDistances promised straights trips (placed_of schedule trips passes)) (s a r b : ℕ)
+    (trips passes : ℕ) (many : passes ≤ trips) (enough : most + 3 ≤ passes) (shorter longer : List Placed)
+    (come : ComeLater schedule.interval shorter longer) (promised : Insn → Insn → Bool)
+    (keeps : KeepDistances promised straights trips (placed_with schedule trips passes shorter)) (s a r b : ℕ)
     (in_s : s ≤ suc (suc trips)) (in_r : r ≤ suc (suc trips))
     (in_a : a < length (part straights (suc trips) s)) (in_b : b < length (part straights (suc trips) r))
     (lt : begin straights s + a < begin straights r + b) (p q : Placed) (bound : ℤ)
-    (at_p : slice_get (placed_part schedule (suc trips) (suc passes) s) a ≡ Some p)
-    (at_q : slice_get (placed_part schedule (suc trips) (suc passes) r) b ≡ Some q)
+    (at_p : slice_get (placed_part schedule (suc trips) (suc passes) longer s) a ≡ Some p)
+    (at_q : slice_get (placed_part schedule (suc trips) (suc passes) longer r) b ≡ Some q)
     (asked : DataBounds (insns_of straights (suc trips)) (begin straights s + a) (begin straights r + b) bound)
     (needed : IsOfMemory asked.bounds.applies → promised asked.bounds.first asked.bounds.second ≡ true
     → AreParted straights (suc trips) (begin straights s + a) (begin straights r + b) → ⊥) where
   abbrev Kept : Type 0
   Kept = (pos p.cycle +ℤ bound) ≤ℤ pos q.cycle
 
-  both_stay : Stays straights schedule trips passes s a → Stays straights schedule trips passes r b → Kept
+  both_stay : Stays straights schedule trips passes shorter longer s a → Stays straights schedule trips passes
+      shorter longer r b → Kept
   both_stay x y =
       let small = asked_small straights trips s a r b s r in_s in_r x.there y.there x.same y.same in_a in_b lt lt
       covered bound asked in
       keeps (begin straights s + a) (begin straights r + b) p q bound
-      (placed_small straights schedule most places trips passes s a p x.there
+      (placed_small straights schedule most places trips passes shorter s a p x.there
       (within_small straights trips s a s x.same in_a) (x.placed p at_p))
-      (placed_small straights schedule most places trips passes r b q y.there
+      (placed_small straights schedule most places trips passes shorter r b q y.there
       (within_small straights trips r b r y.same in_b) (y.placed q at_q))
       small.0
       (λ m t parted. needed (small.3 m)
@@ -84,7 +86,8 @@ module _ (straights : Straights) (schedule : Schedule) (most : ℕ) (places : Pl
             high,
           )
 
-  both_come : Comes straights schedule trips passes s a → Comes straights schedule trips passes r b → Kept
+  both_come : Comes straights schedule trips passes shorter longer s a → Comes straights schedule trips passes
+      shorter longer r b → Kept
   both_come x y =
       let d = x.placed p at_p in
       let e = y.placed q at_q in
@@ -99,9 +102,9 @@ module _ (straights : Straights) (schedule : Schedule) (most : ℕ) (places : Pl
       in_b lt lower covered bound asked in
       let kept : (pos d.0.cycle +ℤ bound) ≤ℤ pos e.0.cycle
       = keeps (begin straights x.earlier + a) (begin straights y.earlier + b) d.0 e.0 bound
-      (placed_small straights schedule most places trips passes x.earlier a d.0 x.there
+      (placed_small straights schedule most places trips passes shorter x.earlier a d.0 x.there
       (within_small straights trips s a x.earlier x.same in_a) d.1)
-      (placed_small straights schedule most places trips passes y.earlier b e.0 y.there
+      (placed_small straights schedule most places trips passes shorter y.earlier b e.0 y.there
       (within_small straights trips r b y.earlier y.same in_b) e.1)
       small.0
       (λ m t parted. needed (small.3 m)
@@ -156,7 +159,8 @@ module _ (straights : Straights) (schedule : Schedule) (most : ℕ) (places : Pl
           by_order (inl l) = made (omega arith)
           by_order (inr (e, l)) = made (omega arith)
 
-  one_comes : Stays straights schedule trips passes s a → s ≤ most + 1 → Comes straights schedule trips passes r b
+  one_comes : Stays straights schedule trips passes shorter longer s a → s ≤ most + 1 → Comes straights schedule
+      trips passes shorter longer r b
       → passes + 1 ≤ r → Kept
   one_comes x few y far =
       let e = y.placed q at_q in
@@ -164,9 +168,9 @@ module _ (straights : Straights) (schedule : Schedule) (most : ℕ) (places : Pl
       lower covered bound asked in
       let kept : (pos p.cycle +ℤ bound) ≤ℤ pos e.0.cycle
       = keeps (begin straights s + a) (begin straights y.earlier + b) p e.0 bound
-      (placed_small straights schedule most places trips passes s a p x.there
+      (placed_small straights schedule most places trips passes shorter s a p x.there
       (within_small straights trips s a s x.same in_a) (x.placed p at_p))
-      (placed_small straights schedule most places trips passes y.earlier b e.0 y.there
+      (placed_small straights schedule most places trips passes shorter y.earlier b e.0 y.there
       (within_small straights trips r b y.earlier y.same in_b) e.1)
       small.0
       (λ m t parted. needed (small.3 m)
@@ -255,25 +259,25 @@ module _ (straights : Straights) (schedule : Schedule) (most : ℕ) (places : Pl
           by_order (inl l) (inl u) = in_between l u
 
   pub kept : Kept
-  kept = by_last (stays_or straights schedule most places trips passes many enough r b in_r in_b)
+  kept = by_last (stays_or straights schedule most places trips passes many enough shorter longer come r b in_r in_b)
     where
       before : s ≤ r
       before = elim (in_order straights (suc trips) s r a b in_s in_b (omega arith))
           [ inl l ↦ omega arith | inr e ↦ (let f : s ≡ r = e.0 in omega arith) ]
 
-      by_last : Stays straights schedule trips passes r b
-          ⊎ (Comes straights schedule trips passes r b × (passes + 1 ≤ r)) → Kept
+      by_last : Stays straights schedule trips passes shorter longer r b
+          ⊎ (Comes straights schedule trips passes shorter longer r b × (passes + 1 ≤ r)) → Kept
       by_last (inl y) =
-          elim (stays_or straights schedule most places trips passes many enough s a in_s in_a) [
+          elim (stays_or straights schedule most places trips passes many enough shorter longer come s a in_s in_a) [
             | inl x ↦ both_stay x y
             | inr x ↦ (let l : passes + 1 ≤ s = x.1 in elim
-                (comes_or straights schedule most places trips passes many enough r b in_r in_b) [
+                (comes_or straights schedule most places trips passes many enough shorter longer come r b in_r in_b) [
                   | inl z ↦ both_come x.0 z
                   | inr z ↦ (let u : r ≤ most + 1 = z.1 in let v : s ≤ r = before in absurd (omega arith))
                 ])
           ]
       by_last (inr (y, far)) =
-          elim (comes_or straights schedule most places trips passes many enough s a in_s in_a) [
+          elim (comes_or straights schedule most places trips passes many enough shorter longer come s a in_s in_a) [
             | inl x ↦ both_come x y
             | inr x ↦ one_comes x.0 x.1 y far
           ]

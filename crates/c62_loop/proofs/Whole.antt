@@ -1,4 +1,4 @@
--- A pipelined loop does what its serial loop does, for every number of trips.
+-- Instances of a pipelined loop match its serial path, in any number of passes.
 use Rattle.std.proofs.Common.{Bool, ◌≡◌, ℕ, suc, ◌+◌, ◌^◌, ◌<◌, ◌≤◌, List, []}
 use Rattle.std.proofs.Common.{◌∷◌, ◌++◌, map, length, Some, refl, sym, ◌∙◌, subst, ◌⊎◌, inl, inr}
 use Rattle.std.proofs.Common.{arith}
@@ -18,17 +18,15 @@ use Rattle.c62_flight.specs.Laid.{straight_end}
 use Rattle.c62_loop.specs.Counter.{work_of}
 use Rattle.c62_loop.specs.Loop.{Region, loop_path, trips_of, Pipelined, epilog_row, prolog_cycles, interval}
 use Rattle.c62_loop.specs.Loop.{pass_start, visits_of, cycles_of, IsMatch}
-use Rattle.c62_loop.specs.Stage.{cycles_in, rounds_from}
+use Rattle.c62_loop.specs.Stage.{cycles_in}
 use Rattle.c62_loop.specs.Whole.{StandFor, entry_of, AreApart}
-use Rattle.c62_loop.specs.Whole.{IsPipelining, PipelinedForAllTrips}
 use Rattle.c62_loop.proofs.Lists.{get_back, front_at, all_in}
 use Rattle.c62_loop.proofs.Passes.{end_from}
-use Rattle.c62_loop.proofs.Pipelined.{pipelined_is_serial}
-use Rattle.c62_loop.proofs.Standing.{stand_count, stand_at, stand_both, later_stand}
+use Rattle.c62_loop.proofs.Standing.{stand_count, stand_at, stand_both}
 use Rattle.c62_loop.proofs.PassControl.{control_of, later_passes}
 use Rattle.c62_loop.proofs.LaterRows.{pass_at, prolog_rows, kernel_rows, epilog_rows, from_rows, prolog_there}
 use Rattle.c62_loop.proofs.LaterRows.{pass_there, epilog_there}
-use Rattle.c62_loop.proofs.Members.{members}
+use Rattle.c62_loop.proofs.Core.{Core}
 use Rattle.c62_loop.proofs.Steered.{all_touch, all_counted, control_counts, control_enough, control_decides}
 use Rattle.c62_loop.proofs.Steered.{control_decided}
 use Rattle.c62_loop.proofs.Spaced.{instances_keep}
@@ -39,7 +37,7 @@ entries_stand (p ∷ ps) =
     (record { insn = record { op = refl; operands = refl; cond = refl }; line = refl }, entries_stand ps)
 
 module _ (promised : Insn → Insn → Bool) (region : Region) (loop : Pipelined) (most passes : ℕ)
-    (m : IsPipelining promised region loop most) (some : 0 < passes) (opening : Machine) (sound : IsSound opening)
+    (m : Core promised region loop most passes) (some : 0 < passes) (opening : Machine) (sound : IsSound opening)
     (begins : trips_of region opening ≡ most + passes) (small : most + passes < 2 ^ 32)
     (promise : AreApart promised region (most + passes) opening) where
   abbrev counter : Reg
@@ -61,10 +59,10 @@ module _ (promised : Insn → Insn → Bool) (region : Region) (loop : Pipelined
   path = region.before ++ (entries ++ work)
 
   abbrev before : List Placed
-  before = m.schedule.before
+  before = m.before
 
   abbrev rest : List Placed
-  rest = rounds_from m.schedule passes 0 trips (map (moved (cycles_in m.schedule.interval passes)) m.schedule.behind)
+  rest = m.rest
 
   abbrev placed : List Placed
   placed = before ++ (control ++ rest)
@@ -78,9 +76,8 @@ module _ (promised : Insn → Insn → Bool) (region : Region) (loop : Pipelined
   StandAll = StandFor path placed
 
   all_stand : StandAll
-  all_stand = stand_both region.before (entries ++ work) before (control ++ rest) m.before
-      (stand_both entries work control rest (entries_stand control) (later_stand region m.schedule most passes
-      m.before m.body m.behind trips))
+  all_stand = stand_both region.before (entries ++ work) before (control ++ rest) m.stand_before
+      (stand_both entries work control rest (entries_stand control) m.stand_rest)
 
   instances : AreInstancesFrom opening path issued
   instances = record {
@@ -92,7 +89,7 @@ module _ (promised : Insn → Insn → Bool) (region : Region) (loop : Pipelined
           instances_keep promised region loop most passes m some opening sound begins small promise i j p q bound at_p
           at_q asked;
     };
-    members = members promised region loop most passes m;
+    members = m.members;
   }
 
   -- ---- when all has landed
@@ -158,7 +155,7 @@ module _ (promised : Insn → Insn → Bool) (region : Region) (loop : Pipelined
 
   at_all : (i : ℕ) (p : Placed) → slice_get control i ≡ Some p → slice_get placed (length region.before + i) ≡ Some p
   at_all i p at =
-      let b : length before ≡ length region.before = stand_count region.before before m.before in
+      let b : length before ≡ length region.before = stand_count region.before before m.stand_before in
       get_back before (control ++ rest) (length region.before + i) i (omega arith) ∙ front_at control rest i p at
 
   pub is_match : IsMatch region loop trips passes opening
@@ -175,10 +172,3 @@ module _ (promised : Insn → Insn → Bool) (region : Region) (loop : Pipelined
     decides = control_decides counter loop most passes m.control m.steering some placed (length region.before) at_all;
     decided = control_decided counter loop most passes m.control m.steering some placed (length region.before) at_all;
   }
-
-pub pipelined_for_all_trips : (promised : Insn → Insn → Bool) (region : Region) (loop : Pipelined) (most : ℕ)
-    → PipelinedForAllTrips promised region loop most
-pipelined_for_all_trips promised region loop most counted is m opening passes sound some begins small promise more =
-    pipelined_is_serial region loop (most + passes) passes counted is opening
-    (is_match promised region loop most passes m some opening sound begins small promise) sound begins small
-    more

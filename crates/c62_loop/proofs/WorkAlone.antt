@@ -20,7 +20,7 @@ use Rattle.c62_meaning.proofs.Lookup.{In}
 use Rattle.c62_meaning.proofs.Instances.{no_placed}
 use Rattle.c62_loop.specs.Counter.{touches, steps_in, IsCounted, work_of}
 use Rattle.c62_loop.specs.Loop.{Region, loop_path, trips_of, Pipelined, interval}
-use Rattle.c62_loop.specs.Whole.{insns_in, work_path, entry_of, IsControl, IsPipelining}
+use Rattle.c62_loop.specs.Whole.{insns_in, work_path, entry_of, IsControl}
 use Rattle.c62_loop.proofs.Lists.{in_take, at_place, get_front, get_back, taken_whole, taken_more, from_mapped}
 use Rattle.c62_loop.proofs.Lists.{in_mapped}
 use Rattle.c62_loop.proofs.Machines.{machine_after, serial_machine}
@@ -28,6 +28,7 @@ use Rattle.c62_loop.proofs.Apart.{acts_alike, free_commutes, apart}
 use Rattle.c62_loop.proofs.Counting.{after_both, serial_both, in_work, no_work}
 use Rattle.c62_loop.proofs.Between.{IsUnread}
 use Rattle.c62_loop.proofs.Standing.{stand_count}
+use Rattle.c62_loop.proofs.Core.{Core}
 use Rattle.c62_loop.proofs.PassControl.{control_of}
 use Rattle.c62_loop.proofs.Asked.{unread_by_work}
 use Rattle.c62_loop.proofs.Steered.{each_control, control_counts}
@@ -45,7 +46,7 @@ insn_same xs ys i k e =
     ∙ sym (slice_get-map (λ (entry : SerialInsn). entry.insn) ys k)
 
 module _ (promised : Insn → Insn → Bool) (region : Region) (loop : Pipelined) (most passes : ℕ)
-    (m : IsPipelining promised region loop most) (some : 0 < passes) (opening : Machine) (sound : IsSound opening)
+    (m : Core promised region loop most passes) (some : 0 < passes) (opening : Machine) (sound : IsSound opening)
     (begins : trips_of region opening ≡ most + passes) (small : most + passes < 2 ^ 32) where
   abbrev counter : Reg
   counter = region.counter
@@ -70,7 +71,7 @@ module _ (promised : Insn → Insn → Bool) (region : Region) (loop : Pipelined
   alone = work_path region trips
 
   abbrev before : List Placed
-  before = m.schedule.before
+  before = m.before
 
   -- where the instructions above the label lead
   abbrev start : Machine
@@ -80,7 +81,7 @@ module _ (promised : Insn → Insn → Bool) (region : Region) (loop : Pipelined
   sound_start = sound_run region.before opening sound
 
   pub same_before : length before ≡ length region.before
-  same_before = stand_count region.before before m.before
+  same_before = stand_count region.before before m.stand_before
 
   same_length : length entries ≡ length control
   same_length = length-map control entry_of

@@ -6,3 +6,4 @@ pub mod Whole
 pub mod Sample
 pub mod Rounds
 pub mod Past
+pub mod Collapsed

@@ -77,11 +77,10 @@ KeepDistances promised straights trips placed = (i j : ℕ) (p q : Placed) (boun
     → (IsOfMemory asked.bounds.applies → IsTrue (promised asked.bounds.first asked.bounds.second) → AreParted straights trips i j → ⊥)
     → (pos p.cycle +ℤ bound) ≤ℤ pos q.cycle
 
--- they are placed one for one, and no more iterations than these are begun in the prolog
+-- what stands before the loop and its instructions are placed one for one, and no more iterations than these are begun in the prolog
 pub record Places (straights : Straights) (schedule : Schedule) (most : ℕ) : Type 0 where
   pub before : length schedule.before ≡ length straights.before
   pub body : length schedule.stages ≡ length straights.body
-  pub behind : length schedule.behind ≡ length straights.behind
   pub early : All (λ stage. length stage.early ≤ most) schedule.stages
 
 -- Where a prolog and an epilog hold as much of each instruction as so many iterations, and three passes more than these keep all distances, so does

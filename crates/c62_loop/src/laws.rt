@@ -13,6 +13,7 @@ ghost use Rattle.c62_loop.specs.Counter.{CounterStandsApart};
 ghost use Rattle.c62_read.specs.Block.{Serial};
 ghost use Rattle.c62_loop.specs.Rounds.{GoesRound};
 ghost use Rattle.c62_loop.specs.Past.{PipelinedPastTheEnd};
+ghost use Rattle.c62_loop.specs.Collapsed.{CollapsedForAllTrips};
 ghost use Rattle.c62_loop.specs.Stage.{Straights, Schedule, KeptInMorePasses};
 ghost use Rattle.c62_loop.specs.Whole.{IsPipelining, PipelinedForAllTrips};
 ghost use Rattle.c62_loop.specs.Sample.{sum, pipelined_sum};
@@ -79,6 +80,14 @@ pub fn kept_in_more_passes()
 pub fn pipelined_for_all_trips()
     ensures { (promised : Insn → Insn → Bool) (region : Region) (pipelined : Pipelined) (most : ℕ)
         → PipelinedForAllTrips promised region pipelined most }
+{}
+
+/// And so it is of packets that begin iterations past the last, as a collapsed epilog does, of which they issue no stores: from every sound machine
+/// that comes to the label with more trips than prolog and epilog hold of each instruction at least, they leave what the serial loop
+/// leaves, but for the registers that the instances past the end write and for faulted lines of these.
+pub fn collapsed_for_all_trips()
+    ensures { (promised : Insn → Insn → Bool) (region : Region) (past : List SerialInsn) (pipelined : Pipelined) (most : ℕ)
+        → CollapsedForAllTrips promised region past pipelined most }
 {}
 
 /// So it is of a loop that sums words, in packets of one cycle a word: when its kernel is begun five
