@@ -10,5 +10,7 @@ mod turns;
 mod underway;
 
 pub use issuable::is_issuable;
-pub use run::{Flown, fly, fly_counted};
+pub use run::{Flown, fly, fly_counted, row_after, run_row};
 pub use tally::Count;
+pub use turns::Turns;
+pub use underway::{Passed, Underway};

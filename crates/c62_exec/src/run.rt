@@ -49,7 +49,7 @@ fn row_at(rows: &Rows, word: u32) -> Option<usize>
 }
 
 /// The row where a run goes on when a row is over, or the word with which it leaves the text.
-fn row_after(rows: &Rows, row: usize, turn: Option<Target>) -> Result<usize, u32>
+pub fn row_after(rows: &Rows, row: usize, turn: Option<Target>) -> Result<usize, u32>
     requires row { row < 2 ^ 63 }
     requires rows { IsIssuable (text_of rows.now) }
     ensures position { MatchResult result (λ next. position_after (text_of rows.now) row turn ≡ At next)
@@ -75,7 +75,7 @@ fn place_of(rows: &Rows, row: usize) -> usize
 }
 
 /// Runs a row of the text, or one behind its last, that begins in a cycle.
-fn run_row(
+pub fn run_row(
     rows: &Rows,
     row: usize,
     start: u64,

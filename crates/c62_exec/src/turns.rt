@@ -11,7 +11,7 @@ const CYCLES: u64 = 6;
 
 /// Where a branch goes, for each of six cycles in turn: a cycle's place is that of its number modulo six.
 #[derive(Drop)]
-pub(crate) struct Turns {
+pub struct Turns {
     places: [Option<Target>; CYCLES as usize],
 }
 
@@ -60,7 +60,7 @@ impl Turns {
     }
 
     /// Whether a branch is in flight.
-    pub(crate) fn any(&self) -> bool
+    pub fn any(&self) -> bool
         ensures { result ≡ list_any is_some self.now }
     {
         self.places.iter().any(|place| place.is_some())

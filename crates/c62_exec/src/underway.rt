@@ -19,7 +19,7 @@ use c62_serial::State;
 
 /// How a row went.
 #[derive(Clone, Copy, PartialEq, Eq, Debug)]
-pub(crate) enum Passed {
+pub enum Passed {
     /// It was over in this cycle, in which a branch took effect, if one did.
     Over(u64, Option<Target>),
     /// This cycle broke the run.
@@ -28,14 +28,14 @@ pub(crate) enum Passed {
 
 /// What is in flight before a cycle.
 #[derive(Drop)]
-pub(crate) struct Underway {
+pub struct Underway {
     pub pipe: Pipe,
     pub turns: Turns,
 }
 
 impl Underway {
     /// Nothing in flight.
-    pub(crate) fn new() -> Underway
+    pub fn new() -> Underway
         ensures { IsOnGround result }
     {
         Underway {
@@ -146,7 +146,7 @@ impl Underway {
     }
 
     /// Lets what is in flight land in so many cycles from one on.
-    pub(crate) fn settle(&mut self, cycle: u64, count: u64, state: &mut State)
+    pub fn settle(&mut self, cycle: u64, count: u64, state: &mut State)
         requires cycle { cycle < 2 ^ 62 }
         requires count { count < 2 ^ 62 }
         ensures { on_way self.new.pipe self.new.turns state.new.machine
@@ -163,7 +163,7 @@ impl Underway {
 
     /// Stops a run so, in a cycle before which it stands, or by a clash of what still lands. All that
     /// is in flight lands.
-    pub(crate) fn come_down(&mut self, stop: Stop, end: u64, state: &mut State) -> Flown
+    pub fn come_down(&mut self, stop: Stop, end: u64, state: &mut State) -> Flown
         requires { end < 2 ^ 62 }
         ensures flown { result ≡ flown_from stop end (clash_from 4 end self.old.pipe.slots) }
         ensures landed { on_way self.new.pipe self.new.turns state.new.machine

@@ -1,4 +1,4 @@
-mod FirstLemmas
+pub mod FirstLemmas
 pub mod LineLemmas
 mod Noting
 mod Parting

@@ -95,11 +95,11 @@ ghost use Rattle.std.specs.Option.{option_to_list};
 ghost use Rattle.c62_faulted.specs.Faulted.{with_faults};
 
 /// Adds the fault of what an instruction does now, if it has one of a new line.
-pub(crate) fn note(
-    faults: &mut Vec<Fault>,
-    entry: &SerialInsn,
-    state: &State,
-) -> Result<(), AllocError>
+///
+/// # Errors
+///
+/// `AllocError` where memory ran out.
+pub fn note(faults: &mut Vec<Fault>, entry: &SerialInsn, state: &State) -> Result<(), AllocError>
     ensures { OnOk result (faults.new.items ≡ with_faults faults.old.items (option_to_list (fault_in state.now.machine entry.now))) }
 {
     match fault_in(entry, state) {

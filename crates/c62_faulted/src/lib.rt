@@ -6,6 +6,6 @@ pub mod laws;
 mod run;
 mod sentence;
 
-pub use fault::{Cause, Fault};
+pub use fault::{Cause, Fault, note};
 pub use run::faults_of;
 pub use sentence::push_faults;

@@ -1,0 +1,5 @@
+mod Done
+mod Blocks
+mod Chains
+mod Rows
+pub mod Lines

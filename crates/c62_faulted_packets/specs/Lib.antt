@@ -1,0 +1,4 @@
+pub mod Done
+pub mod Chain
+pub mod Flight
+pub mod Laws
