@@ -1,0 +1,6 @@
+mod Marking
+mod Parting
+mod Running
+mod Telling
+mod Touching
+mod Watching

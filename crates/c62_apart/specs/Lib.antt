@@ -1,0 +1,5 @@
+pub mod Marks
+pub mod Met
+pub mod Sentence
+pub mod Touch
+pub mod Visit
