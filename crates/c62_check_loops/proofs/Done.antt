@@ -40,11 +40,11 @@ test_at all test step number (suc k) (y ∷ xs) x holds at =
     let place : number + 1 + k ≡ number + suc k = omega arith in
     subst (λ (n : ℕ). test n x ≡ true) place (test_at all test step (number + 1) k xs x parts.1 at)
 
-module _ (trips : List (Name × ℕ)) (promise : Promise) (starts : Starts) (blocks : List Serial) (packets : Text)
-    (number : ℕ) (block : Serial) where
+module _ (trips : List (Name × ℕ)) (promise : Promise) (loops : List (Option LoopVerdict)) (starts : Starts)
+    (blocks : List Serial) (packets : Text) (number : ℕ) (block : Serial) where
   -- a good loop is done
   loop_done : (label : Option Name) (verdict : LoopVerdict) → block.label ≡ label
-      → is_good_loop trips label verdict ≡ true → is_fit blocks starts number (Loop verdict) ≡ true
+      → is_good_loop trips label verdict ≡ true → is_fit blocks loops starts number (Loop verdict) ≡ true
       → IsTold (promises promise) blocks number packets (Some verdict)
       → IsLoopDone trips promise starts blocks packets number block
   loop_done (Some label) (told.Same least cycles first last) labelled good fit (region, found, same) =
@@ -83,24 +83,31 @@ module _ (trips : List (Name × ℕ)) (promise : Promise) (starts : Starts) (blo
   loop_done None told.Outside labelled good fit is = absurd cc
 
   block_done : (verdict : BlockVerdict) → slice_get blocks number ≡ Some block
-      → is_good trips blocks number verdict ≡ true → is_fit blocks starts number verdict ≡ true
-      → IsBlockTold promise starts blocks packets number verdict
-      → IsDone trips promise starts blocks packets number block
-  block_done Within there good fit is = inl (record { with_loop = is; entered = fit })
-  block_done (Loop verdict) there good fit is =
-      inr (inl (loop_done block.label verdict refl
-      (subst (λ (b : Option Serial). is_good_loop trips (label_in b) verdict ≡ true) there good) fit is))
-  block_done (Rest verdict) there good fit (other, at, is) =
+      → is_good trips blocks number verdict ≡ true → is_fit blocks loops starts number verdict ≡ true
+      → IsBlockTold promise loops starts blocks packets number verdict
+      → IsDone trips promise loops starts blocks packets number block
+  block_done Within there good fit (none, with_loop) =
+      inr (none, inl (record { with_loop = with_loop; entered = fit }))
+  block_done (Loop verdict) there good fit (one, is) =
+      inl (
+        one,
+        loop_done block.label verdict refl
+            (subst (λ (b : Option Serial). is_good_loop trips (label_in b) verdict ≡ true) there good) fit is,
+      )
+  block_done (Rest verdict) there good fit (none, (other, at, is)) =
       let same : other ≡ block = same_Some other block (sym at ∙ there) in
-      inr (inr (rest_is_serial starts packets number block verdict
-      (subst (λ (b : Serial). IsRest starts packets number b verdict) same is) good))
+      inr (
+        none,
+        inr (rest_is_serial starts packets number block verdict
+            (subst (λ (b : Serial). IsRest starts packets number b verdict) same is) good),
+      )
 
 pub loops_do_the_same : (trips : List (Name × ℕ)) (apart : List Reg) (blocks : List Serial) (packets : Text)
     (answer : List ℕ)
     → LoopsDoTheSame trips apart blocks packets answer
 loops_do_the_same trips apart blocks packets answer is =
     let parts = both _ _ (sym is.all) in
-    let turn = both (are_fit blocks is.starts 0 is.verdicts)
+    let turn = both (are_fit blocks is.loops is.starts 0 is.verdicts)
     (are_all_rows is.starts (length blocks) (length packets.rows)) parts.1 in
     let rows = both (is_row (start_at is.starts 0) 0)
     (is_row (start_at is.starts (length blocks)) (length packets.rows)) turn.1 in
@@ -108,6 +115,7 @@ loops_do_the_same trips apart blocks packets answer is =
     record {
       promise = is.promise;
       promised = is.promised;
+      told = is.loops;
       starts = is.starts;
       begins = row_is (start_at is.starts 0) 0 rows.0;
       ends = row_is (start_at is.starts (length blocks)) (length packets.rows) rows.1;
@@ -119,10 +127,10 @@ loops_do_the_same trips apart blocks packets answer is =
           = subst (λ (n : ℕ). is_good trips blocks n has.0 ≡ true) place
           (test_at (are_good trips blocks) (is_good trips blocks) (λ n x xs. refl) 0 number is.verdicts has.0
           parts.0 has.1) in
-          let fit : is_fit blocks is.starts number has.0 ≡ true
-          = subst (λ (n : ℕ). is_fit blocks is.starts n has.0 ≡ true) place
-          (test_at (are_fit blocks is.starts) (is_fit blocks is.starts) (λ n x xs. refl) 0 number is.verdicts
-          has.0 turn.0 has.1) in
-          block_done trips is.promise is.starts blocks packets number block has.0 there good fit
+          let fit : is_fit blocks is.loops is.starts number has.0 ≡ true
+          = subst (λ (n : ℕ). is_fit blocks is.loops is.starts n has.0 ≡ true) place
+          (test_at (are_fit blocks is.loops is.starts) (is_fit blocks is.loops is.starts) (λ n x xs. refl) 0 number
+          is.verdicts has.0 turn.0 has.1) in
+          block_done trips is.promise is.loops is.starts blocks packets number block has.0 there good fit
           (is.are.each number has.0 has.1));
     }

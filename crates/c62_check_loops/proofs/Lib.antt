@@ -1,4 +1,5 @@
 pub mod Loops
+pub mod Taken
 pub mod Telling
 pub mod Done
 pub mod Granting

@@ -1,5 +1,5 @@
 -- What is told of loops, one block after the other.
-use Rattle.std.proofs.Common.{◌≡◌, ℕ, zero, suc, ◌+◌, ◌<◌, ◌++◌, List, [], ◌∷◌, length, Option, Some, refl, sym}
+use Rattle.std.proofs.Common.{◌≡◌, ℕ, zero, suc, ◌+◌, ◌<◌, ◌++◌, List, [], ◌∷◌, length, Option, Some, None, refl, sym}
 use Rattle.std.proofs.Common.{ap, subst, arith, ◌∙◌, ◌⊎◌, inl, inr}
 use Rattle.std.specs.Prelude.{slice_get}
 use Rattle.std.proofs.lemmas.List.{length-append}
@@ -10,7 +10,8 @@ use Rattle.c62_loop_match.specs.declared.promise.Promise.{Promise}
 use Rattle.c62_loop_match.specs.Promise.{promises}
 use Rattle.c62_check_loop.specs.declared.verdict.LoopVerdict.{LoopVerdict}
 use Rattle.c62_check_loop.specs.Told.{IsTold}
-use Rattle.c62_check_loops.specs.Verdicts.{AreLoopVerdicts, loop_in}
+use Rattle.c62_check_loops.specs.Covered.{loop_in}
+use Rattle.c62_check_loops.specs.Verdicts.{AreLoopVerdicts, IsLoopTold}
 
 -- there is one at each number below their count
 pub there_at : {X : Type 0} (xs : List X) (k : ℕ) → k < length xs → (x : X) × (slice_get xs k ≡ Some x)
@@ -42,17 +43,28 @@ module _ (promise : Promise) (blocks : List Serial) (packets : Text) where
   pub none_told : AreLoopVerdicts promise blocks packets 0 []
   none_told = record { counted = refl; each = λ number verdict at. absurd (none-some verdict at) }
 
+  pub loop_next : (count : ℕ) (verdicts : List (Option LoopVerdict)) (verdict : Option LoopVerdict)
+      → AreLoopVerdicts promise blocks packets count verdicts
+      → IsLoopTold promise blocks packets count verdict
+      → AreLoopVerdicts promise blocks packets (count + 1) (verdicts ++ verdict ∷ [])
+  loop_next count verdicts verdict are says =
+      let counted = are.counted in
+      record {
+        counted = (let many = length-append verdicts (verdict ∷ []) in omega (arith, many, counted));
+        each = each_pushed (λ number told. IsLoopTold promise blocks packets number told) count verdicts verdict
+            counted are.each says;
+      }
+
+  as_loop : (number : ℕ) (verdict : Option LoopVerdict) → IsTold (promises promise) blocks number packets verdict
+      → IsLoopTold promise blocks packets number verdict
+  as_loop number None is = tt
+  as_loop number (Some verdict) is = is
+
   pub told_next : (count : ℕ) (verdicts : List (Option LoopVerdict)) (verdict : Option LoopVerdict)
       → AreLoopVerdicts promise blocks packets count verdicts
       → IsTold (promises promise) blocks count packets verdict
       → AreLoopVerdicts promise blocks packets (count + 1) (verdicts ++ verdict ∷ [])
-  told_next count verdicts verdict are says =
-      let counted = are.counted in
-      record {
-        counted = (let many = length-append verdicts (verdict ∷ []) in omega (arith, many, counted));
-        each = each_pushed (λ number told. IsTold (promises promise) blocks number packets told) count verdicts verdict
-            counted are.each says;
-      }
+  told_next count verdicts verdict are says = loop_next count verdicts verdict are (as_loop count verdict says)
 
   -- what is told of a loop among them
   pub loop_told : (count : ℕ) (verdicts : List (Option LoopVerdict)) (number : ℕ) (verdict : LoopVerdict)
@@ -62,5 +74,5 @@ module _ (promise : Promise) (blocks : List Serial) (packets : Text) where
   loop_told count verdicts number verdict are within is =
       let counted = are.counted in
       let there = there_at verdicts number (omega (arith, within, counted)) in
-      subst (λ (v : Option LoopVerdict). IsTold (promises promise) blocks number packets v)
+      subst (λ (v : Option LoopVerdict). IsLoopTold promise blocks packets number v)
       (sym (is ∙ ap loop_in there.1)) (are.each number there.0 there.1)

@@ -1,6 +1,6 @@
 -- What is told of one block after the other.
 use Rattle.std.proofs.Common.{arith, ◌≡◌, ℕ, suc, ◌+◌, Bool, true, false, List, [], ◌∷◌, ◌++◌, length, refl, sym}
-use Rattle.std.proofs.Common.{ap, ◌∙◌, append_assoc, append-nil}
+use Rattle.std.proofs.Common.{Option, ap, ◌∙◌, append_assoc, append-nil}
 use Rattle.std.specs.Prelude.{map, not, ◌&&◌}
 use Rattle.std.specs.List.{list_all}
 use Rattle.std.proofs.lemmas.List.{length-append, length-map}
@@ -13,6 +13,7 @@ use Rattle.c62_flight.specs.Text.{Text}
 use Rattle.c62_rows.specs.Rows.{row_read, text_of}
 use Rattle.c62_rows.specs.declared.rows.Rows.{Rows as RowsRead}
 use Rattle.c62_loop_match.specs.declared.promise.Promise.{Promise}
+use Rattle.c62_check_loop.specs.declared.verdict.LoopVerdict.{LoopVerdict}
 use Rattle.c62_check_rest.specs.Starts.{Starts}
 use Rattle.c62_check_loops.specs.declared.told.Told.{Told}
 use Rattle.c62_check_loops.specs.declared.verdict.BlockVerdict.{BlockVerdict}
@@ -57,37 +58,40 @@ good_push trips blocks number (v ∷ verdicts) verdict =
     ∙ and_assoc (is_good trips blocks number v) (are_good trips blocks (number + 1) verdicts)
     (is_good trips blocks (number + suc (length verdicts)) verdict)
 
-fit_push : (blocks : List Serial) (starts : Starts) (number : ℕ) (verdicts : List BlockVerdict) (verdict : BlockVerdict)
-    → are_fit blocks starts number (verdicts ++ verdict ∷ []) ≡
-    (are_fit blocks starts number verdicts && is_fit blocks starts (number + length verdicts) verdict)
-fit_push blocks starts number [] verdict =
+fit_push : (blocks : List Serial) (loops : List (Option LoopVerdict)) (starts : Starts) (number : ℕ)
+    (verdicts : List BlockVerdict) (verdict : BlockVerdict)
+    → are_fit blocks loops starts number (verdicts ++ verdict ∷ []) ≡
+    (are_fit blocks loops starts number verdicts && is_fit blocks loops starts (number + length verdicts) verdict)
+fit_push blocks loops starts number [] verdict =
     let place : number ≡ number + 0 = omega arith in
-    and_true (is_fit blocks starts number verdict) ∙ ap (λ (n : ℕ). is_fit blocks starts n verdict) place
-fit_push blocks starts number (v ∷ verdicts) verdict =
+    and_true (is_fit blocks loops starts number verdict) ∙ ap (λ (n : ℕ). is_fit blocks loops starts n verdict) place
+fit_push blocks loops starts number (v ∷ verdicts) verdict =
     let place : number + 1 + length verdicts ≡ number + suc (length verdicts) = omega arith in
-    ap (λ (b : Bool). is_fit blocks starts number v && b)
-    (fit_push blocks starts (number + 1) verdicts verdict
-    ∙ ap (λ (n : ℕ). are_fit blocks starts (number + 1) verdicts && is_fit blocks starts n verdict) place)
-    ∙ and_assoc (is_fit blocks starts number v) (are_fit blocks starts (number + 1) verdicts)
-    (is_fit blocks starts (number + suc (length verdicts)) verdict)
+    ap (λ (b : Bool). is_fit blocks loops starts number v && b)
+    (fit_push blocks loops starts (number + 1) verdicts verdict
+    ∙ ap (λ (n : ℕ). are_fit blocks loops starts (number + 1) verdicts && is_fit blocks loops starts n verdict) place)
+    ∙ and_assoc (is_fit blocks loops starts number v) (are_fit blocks loops starts (number + 1) verdicts)
+    (is_fit blocks loops starts (number + suc (length verdicts)) verdict)
 
 -- all of it
-pub loops_told : (trips : List (Name × ℕ)) (apart : List Reg) (promise : Promise) (starts : Starts)
-    (blocks : List Serial) (rows : RowsRead) (count : ℕ) (told : Told) (answer : List ℕ) (same all : Bool)
-    → AreTold trips promise starts blocks (text_of rows) (length blocks) told → IsPromiseOf apart promise
+pub loops_told : (trips : List (Name × ℕ)) (apart : List Reg) (promise : Promise)
+    (loops : List (Option LoopVerdict)) (starts : Starts) (blocks : List Serial) (rows : RowsRead) (count : ℕ)
+    (told : Told) (answer : List ℕ) (same all : Bool)
+    → AreTold trips promise loops starts blocks (text_of rows) (length blocks) told → IsPromiseOf apart promise
     → count ≡ length rows.rows.items → all ≡ are_all_rows starts (length blocks) count
     → answer ≡ told.text.items ++ rows_line (told.same && not (told.fit && all))
     → same ≡ (told.good && (told.fit && all))
     → AreLoopsTold trips apart blocks (text_of rows) answer same
-loops_told trips apart promise starts blocks rows count told answer same all is promised counted stands text so =
+loops_told trips apart promise loops starts blocks rows count told answer same all is promised counted stands text so =
     let long : length (map row_read rows.rows.items) ≡ length rows.rows.items = length-map rows.rows.items row_read in
     let ends : all ≡ are_all_rows starts (length blocks) (length (text_of rows).rows) = stands
     ∙ ap (λ (n : ℕ). are_all_rows starts (length blocks) n) (counted ∙ sym long) in
-    let whole : (told.fit && all) ≡ stand_in_turn starts blocks is.verdicts (text_of rows)
-    = ap (λ (b : Bool). b && all) is.fit ∙ ap (λ (b : Bool). are_fit blocks starts 0 is.verdicts && b) ends in
+    let whole : (told.fit && all) ≡ stand_in_turn loops starts blocks is.verdicts (text_of rows)
+    = ap (λ (b : Bool). b && all) is.fit ∙ ap (λ (b : Bool). are_fit blocks loops starts 0 is.verdicts && b) ends in
     record {
       promise = promise;
       promised = promised;
+      loops = loops;
       starts = starts;
       verdicts = is.verdicts;
       are = is.are;
@@ -99,9 +103,10 @@ loops_told trips apart promise starts blocks rows count told answer same all is 
           ∙ ap (λ (b : Bool). are_good trips blocks 0 is.verdicts && b) whole);
     }
 
-module _ (trips : List (Name × ℕ)) (promise : Promise) (starts : Starts) (blocks : List Serial) (packets : Text) where
+module _ (trips : List (Name × ℕ)) (promise : Promise) (loops : List (Option LoopVerdict)) (starts : Starts)
+    (blocks : List Serial) (packets : Text) where
   pub none_told : (told : Told) → told.text.items ≡ [] → told.same ≡ true → told.good ≡ true → told.fit ≡ true
-      → AreTold trips promise starts blocks packets 0 told
+      → AreTold trips promise loops starts blocks packets 0 told
   none_told told text same good fit = record {
     verdicts = [];
     are = record { counted = refl; each = λ number verdict at. absurd (none-some verdict at) };
@@ -112,12 +117,12 @@ module _ (trips : List (Name × ℕ)) (promise : Promise) (starts : Starts) (blo
   }
 
   pub told_next : (count : ℕ) (old new : Told) (verdict : BlockVerdict)
-      → AreTold trips promise starts blocks packets count old
-      → IsBlockTold promise starts blocks packets count verdict
+      → AreTold trips promise loops starts blocks packets count old
+      → IsBlockTold promise loops starts blocks packets count verdict
       → new.text.items ≡ old.text.items ++ line_at blocks count verdict
       → new.same ≡ (old.same && is_same verdict) → new.good ≡ (old.good && is_good trips blocks count verdict)
-      → new.fit ≡ (old.fit && is_fit blocks starts count verdict)
-      → AreTold trips promise starts blocks packets (count + 1) new
+      → new.fit ≡ (old.fit && is_fit blocks loops starts count verdict)
+      → AreTold trips promise loops starts blocks packets (count + 1) new
   told_next count old new verdict told says text same good fit =
       let counted = told.are.counted in
       let place : count ≡ 0 + length told.verdicts = omega (arith, counted) in
@@ -125,7 +130,7 @@ module _ (trips : List (Name × ℕ)) (promise : Promise) (starts : Starts) (blo
         verdicts = told.verdicts ++ verdict ∷ [];
         are = record {
           counted = (let many = length-append told.verdicts (verdict ∷ []) in omega (arith, many, counted));
-          each = each_pushed (λ number v. IsBlockTold promise starts blocks packets number v) count told.verdicts
+          each = each_pushed (λ number v. IsBlockTold promise loops starts blocks packets number v) count told.verdicts
               verdict counted told.are.each says;
         };
         lines = text ∙ (ap (λ (front : List ℕ). front ++ line_at blocks count verdict) told.lines
@@ -137,7 +142,7 @@ module _ (trips : List (Name × ℕ)) (promise : Promise) (starts : Starts) (blo
         good = good ∙ (ap (λ (b : Bool). b && is_good trips blocks count verdict) told.good
             ∙ (ap (λ (n : ℕ). are_good trips blocks 0 told.verdicts && is_good trips blocks n verdict) place
             ∙ sym (good_push trips blocks 0 told.verdicts verdict)));
-        fit = fit ∙ (ap (λ (b : Bool). b && is_fit blocks starts count verdict) told.fit
-            ∙ (ap (λ (n : ℕ). are_fit blocks starts 0 told.verdicts && is_fit blocks starts n verdict) place
-            ∙ sym (fit_push blocks starts 0 told.verdicts verdict)));
+        fit = fit ∙ (ap (λ (b : Bool). b && is_fit blocks loops starts count verdict) told.fit
+            ∙ (ap (λ (n : ℕ). are_fit blocks loops starts 0 told.verdicts && is_fit blocks loops starts n verdict) place
+            ∙ sym (fit_push blocks loops starts 0 told.verdicts verdict)));
       }

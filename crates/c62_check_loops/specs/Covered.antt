@@ -1,6 +1,7 @@
 -- Which blocks of a text are told with a loop (docs/CHECK.md, "The command").
 use Rattle.std.specs.Prelude.{ℕ, ◌-◌, ◌+◌, ◌==◌, ◌&&◌, ◌||◌, not, Bool, false, List, length, slice_get, Option, Some, None, is_some, is_none, if◌then◌else◌}
 use Rattle.c62_read.specs.Block.{Serial}
+use Rattle.c62_check_loop.specs.declared.verdict.LoopVerdict.{LoopVerdict}
 use Rattle.c62_check_loop.specs.Region.{counter_of, is_branch_entry, last_of}
 
 -- the block of this number is a loop under a counter
@@ -20,21 +21,35 @@ abbrev pub is_empty : Option Serial → Bool
 is_empty None = false
 is_empty (Some block) = length block.insns == 0
 
--- the block of this number stands before a loop, and belongs to it
-abbrev pub leads_to_loop : List Serial → ℕ → Bool
-leads_to_loop blocks number = is_loop blocks (number + 1) && is_straight (slice_get blocks number)
+-- without a label or branch, and no block that leads to a loop
+abbrev pub is_loose : List Serial → ℕ → Bool
+is_loose blocks number = is_bare (slice_get blocks number) && not (is_loop blocks (number + 1))
 
-abbrev pub stands_behind : List Serial → ℕ → ℕ → Bool
-stands_behind blocks before number = is_loop blocks before && is_bare (slice_get blocks number)
+-- ---- what is told of blocks as loops
 
--- it stands behind a loop, and belongs to it
-abbrev pub follows_loop : List Serial → ℕ → Bool
-follows_loop blocks number = if number == 0 then false else stands_behind blocks (number - 1) number
+abbrev pub loop_in : Option (Option LoopVerdict) → Option LoopVerdict
+loop_in None = None
+loop_in (Some verdict) = verdict
 
--- What stands between two loops leads to the second, and belongs to that alone.
-abbrev pub belongs_to_loop : List Serial → ℕ → Bool
-belongs_to_loop blocks number = leads_to_loop blocks number || follows_loop blocks number
+-- the block of this number is told as a loop
+abbrev pub is_told : List (Option LoopVerdict) → ℕ → Bool
+is_told told number = is_some (loop_in (slice_get told number))
 
--- it belongs to a loop, or has nothing in it
-abbrev pub is_told_with_loop : List Serial → ℕ → Bool
-is_told_with_loop blocks number = belongs_to_loop blocks number || is_empty (slice_get blocks number)
+-- it stands before a loop that is told, and belongs to it
+abbrev pub leads_to_loop : List Serial → List (Option LoopVerdict) → ℕ → Bool
+leads_to_loop blocks told number = is_told told (number + 1) && is_straight (slice_get blocks number)
+
+abbrev pub stands_behind : List Serial → List (Option LoopVerdict) → ℕ → ℕ → Bool
+stands_behind blocks told before number = is_told told before && is_loose blocks number
+
+-- it stands behind one, and belongs to it
+abbrev pub follows_loop : List Serial → List (Option LoopVerdict) → ℕ → Bool
+follows_loop blocks told number = if number == 0 then false else stands_behind blocks told (number - 1) number
+
+-- What stands between two loops leads to the second, and belongs to that alone, if it is told.
+abbrev pub belongs_to_loop : List Serial → List (Option LoopVerdict) → ℕ → Bool
+belongs_to_loop blocks told number = leads_to_loop blocks told number || follows_loop blocks told number
+
+-- it belongs to a loop that is told, or has nothing in it
+abbrev pub is_told_with_loop : List Serial → List (Option LoopVerdict) → ℕ → Bool
+is_told_with_loop blocks told number = belongs_to_loop blocks told number || is_empty (slice_get blocks number)

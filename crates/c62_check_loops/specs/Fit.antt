@@ -1,6 +1,7 @@
 -- Whether the rows of loops and other blocks stand one behind the other (docs/CHECK.md, "All loops of a text").
 use Rattle.std.specs.Prelude.{ℕ, ◌-◌, ◌+◌, ◌==◌, ◌&&◌, ◌||◌, not, Bool, true, false, List, [], ◌∷◌, slice_get, Option, Some, None, is_none, if◌then◌else◌}
 use Rattle.c62_read.specs.Block.{Serial}
+use Rattle.c62_check_loop.specs.declared.verdict.LoopVerdict.{LoopVerdict}
 use Rattle.c62_check_loop.specs.declared.verdict.LoopVerdict.TheVariants.{Same}
 use Rattle.c62_check_rest.specs.Starts.{Starts, start_at, is_row}
 use Rattle.c62_check_loops.specs.declared.verdict.BlockVerdict.{BlockVerdict}
@@ -40,21 +41,24 @@ abbrev pub is_passed : Starts → ℕ → Bool
 is_passed starts number = passes (start_at starts number) (start_at starts (number + 1))
 
 -- What leads to a loop is entered with it. What stands behind one isn't entered by itself. Any other has nothing in it.
-abbrev pub is_within : List Serial → Starts → ℕ → Bool
-is_within blocks starts number =
-    if leads_to_loop blocks number then true else if follows_loop blocks number then is_none (start_at starts number) else is_passed starts number
+abbrev pub is_within : List Serial → List (Option LoopVerdict) → Starts → ℕ → Bool
+is_within blocks told starts number =
+    if leads_to_loop blocks told number then true
+    else if follows_loop blocks told number then is_none (start_at starts number) else is_passed starts number
 
 -- the rows of a block go from its start to that of what stands behind it
-abbrev pub is_fit : List Serial → Starts → ℕ → BlockVerdict → Bool
-is_fit blocks starts number (Loop (Same trips cycles first last)) = is_alone blocks starts number && stands_there blocks starts number first last
-is_fit blocks starts number (Loop verdict) = false
-is_fit blocks starts number Within = is_within blocks starts number
-is_fit blocks starts number (Rest verdict) = true
+abbrev pub is_fit : List Serial → List (Option LoopVerdict) → Starts → ℕ → BlockVerdict → Bool
+is_fit blocks told starts number (Loop (Same trips cycles first last)) =
+    is_alone blocks starts number && stands_there blocks starts number first last
+is_fit blocks told starts number (Loop verdict) = false
+is_fit blocks told starts number Within = is_within blocks told starts number
+is_fit blocks told starts number (Rest verdict) = true
 
 -- so do those of the blocks from this number on
-abbrev pub are_fit : List Serial → Starts → ℕ → List BlockVerdict → Bool
-are_fit blocks starts number [] = true
-are_fit blocks starts number (verdict ∷ verdicts) = is_fit blocks starts number verdict && are_fit blocks starts (number + 1) verdicts
+abbrev pub are_fit : List Serial → List (Option LoopVerdict) → Starts → ℕ → List BlockVerdict → Bool
+are_fit blocks told starts number [] = true
+are_fit blocks told starts number (verdict ∷ verdicts) =
+    is_fit blocks told starts number verdict && are_fit blocks told starts (number + 1) verdicts
 
 -- the first of so many blocks is entered at the first row, and the text is left behind the last of so many
 abbrev pub are_all_rows : Starts → (blocks rows : ℕ) → Bool

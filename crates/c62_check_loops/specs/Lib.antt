@@ -3,6 +3,7 @@ pub mod Granted
 pub mod Promised
 pub mod Lines
 pub mod Verdicts
+pub mod Settled
 pub mod Fit
 pub mod Told
 pub mod Laws

@@ -1,11 +1,12 @@
 -- What is told of a text and packets that pipeline its loops (docs/CHECK.md, "All loops of a text").
-use Rattle.std.specs.Prelude.{◌≡◌, ℕ, ◌&&◌, not, Bool, List, ◌++◌, length}
+use Rattle.std.specs.Prelude.{◌≡◌, ℕ, ◌&&◌, not, Bool, List, ◌++◌, length, Option}
 use Rattle.std.specs.List.{list_all}
 use Rattle.clap.specs.Words.{Text as Name}
 use Rattle.c62_op.specs.declared.register.Reg.{Reg}
 use Rattle.c62_read.specs.Block.{Serial}
 use Rattle.c62_flight.specs.Text.{Text}
 use Rattle.c62_loop_match.specs.declared.promise.Promise.{Promise}
+use Rattle.c62_check_loop.specs.declared.verdict.LoopVerdict.{LoopVerdict}
 use Rattle.c62_check_rest.specs.Starts.{Starts}
 use Rattle.c62_check_loops.specs.declared.told.Told.{Told}
 use Rattle.c62_check_loops.specs.declared.verdict.BlockVerdict.{BlockVerdict}
@@ -15,17 +16,17 @@ use Rattle.c62_check_loops.specs.Verdicts.{AreVerdicts, is_same, are_good}
 use Rattle.c62_check_loops.specs.Fit.{are_fit, are_all_rows}
 
 -- what is told of so many first blocks
-pub record AreTold (trips : List (Name × ℕ)) (promise : Promise) (starts : Starts) (blocks : List Serial) (packets : Text) (count : ℕ) (told : Told) : Type 0 where
+pub record AreTold (trips : List (Name × ℕ)) (promise : Promise) (loops : List (Option LoopVerdict)) (starts : Starts) (blocks : List Serial) (packets : Text) (count : ℕ) (told : Told) : Type 0 where
   pub verdicts : List BlockVerdict
-  pub are : AreVerdicts promise starts blocks packets count verdicts
+  pub are : AreVerdicts promise loops starts blocks packets count verdicts
   pub lines : told.text.items ≡ lines_from blocks 0 verdicts
   pub same : told.same ≡ list_all is_same verdicts
   pub good : told.good ≡ are_good trips blocks 0 verdicts
-  pub fit : told.fit ≡ are_fit blocks starts 0 verdicts
+  pub fit : told.fit ≡ are_fit blocks loops starts 0 verdicts
 
 -- the blocks' rows are all rows of the packets, one block's behind the other's
-abbrev pub stand_in_turn : Starts → List Serial → List BlockVerdict → Text → Bool
-stand_in_turn starts blocks verdicts packets = are_fit blocks starts 0 verdicts && are_all_rows starts (length blocks) (length packets.rows)
+abbrev pub stand_in_turn : List (Option LoopVerdict) → Starts → List Serial → List BlockVerdict → Text → Bool
+stand_in_turn loops starts blocks verdicts packets = are_fit blocks loops starts 0 verdicts && are_all_rows starts (length blocks) (length packets.rows)
 
 -- These lines are told of the blocks of a text and packets, where so many trips are promised of the loops of these labels, and that
 -- accesses from two of these registers are apart. All is the same where each block is, as a loop from no more trips on than are promised, or
@@ -33,8 +34,9 @@ stand_in_turn starts blocks verdicts packets = are_fit blocks starts 0 verdicts 
 pub record AreLoopsTold (trips : List (Name × ℕ)) (apart : List Reg) (blocks : List Serial) (packets : Text) (answer : List ℕ) (same : Bool) : Type 0 where
   pub promise : Promise
   pub promised : IsPromiseOf apart promise
+  pub loops : List (Option LoopVerdict)
   pub starts : Starts
   pub verdicts : List BlockVerdict
-  pub are : AreVerdicts promise starts blocks packets (length blocks) verdicts
-  pub told : answer ≡ lines_from blocks 0 verdicts ++ rows_line (list_all is_same verdicts && not (stand_in_turn starts blocks verdicts packets))
-  pub all : same ≡ (are_good trips blocks 0 verdicts && stand_in_turn starts blocks verdicts packets)
+  pub are : AreVerdicts promise loops starts blocks packets (length blocks) verdicts
+  pub told : answer ≡ lines_from blocks 0 verdicts ++ rows_line (list_all is_same verdicts && not (stand_in_turn loops starts blocks verdicts packets))
+  pub all : same ≡ (are_good trips blocks 0 verdicts && stand_in_turn loops starts blocks verdicts packets)

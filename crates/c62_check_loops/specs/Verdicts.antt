@@ -13,34 +13,37 @@ use Rattle.c62_check_rest.specs.Told.{IsRest, is_same as is_same_rest}
 use Rattle.c62_check_loops.specs.declared.verdict.Loops.{Loops}
 use Rattle.c62_check_loops.specs.declared.verdict.BlockVerdict.{BlockVerdict}
 use Rattle.c62_check_loops.specs.declared.verdict.BlockVerdict.TheVariants.{Loop, Within, Rest}
-use Rattle.c62_check_loops.specs.Covered.{is_told_with_loop}
+use Rattle.c62_check_loops.specs.Covered.{is_told, is_told_with_loop}
 use Rattle.c62_check_loops.specs.Granted.{is_granted}
 use Rattle.c62_check_loops.specs.Lines.{label_in}
 
--- what is told of each of so many first blocks as a loop holds
+-- what is told of a block as a loop holds, if anything is
+abbrev pub IsLoopTold : Promise → List Serial → Text → ℕ → Option LoopVerdict → Type 0
+IsLoopTold promise blocks packets number None = Unit {0}
+IsLoopTold promise blocks packets number (Some verdict) = IsTold (promises promise) blocks number packets (Some verdict)
+
+-- so it is of each of so many first blocks
 pub record AreLoopVerdicts (promise : Promise) (blocks : List Serial) (packets : Text) (count : ℕ) (verdicts : List (Option LoopVerdict)) : Type 0 where
   pub counted : length verdicts ≡ count
-  pub each : (number : ℕ) (verdict : Option LoopVerdict) → slice_get verdicts number ≡ Some verdict → IsTold (promises promise) blocks number packets verdict
+  pub each : (number : ℕ) (verdict : Option LoopVerdict) → slice_get verdicts number ≡ Some verdict → IsLoopTold promise blocks packets number verdict
 
 abbrev pub AreLoopsOf : List Serial → Text → Loops → Type 0
 AreLoopsOf blocks packets loops = AreLoopVerdicts loops.promise blocks packets (length blocks) loops.verdicts.items
 
--- what is told of a block as a loop, if there is such a block
-abbrev pub loop_in : Option (Option LoopVerdict) → Option LoopVerdict
-loop_in None = None
-loop_in (Some verdict) = verdict
-
--- what is told of a block holds, where blocks are entered at these rows
-abbrev pub IsBlockTold : Promise → Starts → List Serial → Text → ℕ → BlockVerdict → Type 0
-IsBlockTold promise starts blocks packets number (Loop verdict) = IsTold (promises promise) blocks number packets (Some verdict)
-IsBlockTold promise starts blocks packets number Within = is_told_with_loop blocks number ≡ true
-IsBlockTold promise starts blocks packets number (Rest verdict) =
-    (block : Serial) × (slice_get blocks number ≡ Some block) × IsRest starts packets number block verdict
+-- what is told of a block holds, where this is told of blocks as loops, and they are entered at these rows
+abbrev pub IsBlockTold : Promise → List (Option LoopVerdict) → Starts → List Serial → Text → ℕ → BlockVerdict → Type 0
+IsBlockTold promise told starts blocks packets number (Loop verdict) =
+    (is_told told number ≡ true) × IsTold (promises promise) blocks number packets (Some verdict)
+IsBlockTold promise told starts blocks packets number Within =
+    (is_told told number ≡ false) × (is_told_with_loop blocks told number ≡ true)
+IsBlockTold promise told starts blocks packets number (Rest verdict) =
+    (is_told told number ≡ false)
+    × ((block : Serial) × (slice_get blocks number ≡ Some block) × IsRest starts packets number block verdict)
 
 -- so it is of each of so many first blocks
-pub record AreVerdicts (promise : Promise) (starts : Starts) (blocks : List Serial) (packets : Text) (count : ℕ) (verdicts : List BlockVerdict) : Type 0 where
+pub record AreVerdicts (promise : Promise) (told : List (Option LoopVerdict)) (starts : Starts) (blocks : List Serial) (packets : Text) (count : ℕ) (verdicts : List BlockVerdict) : Type 0 where
   pub counted : length verdicts ≡ count
-  pub each : (number : ℕ) (verdict : BlockVerdict) → slice_get verdicts number ≡ Some verdict → IsBlockTold promise starts blocks packets number verdict
+  pub each : (number : ℕ) (verdict : BlockVerdict) → slice_get verdicts number ≡ Some verdict → IsBlockTold promise told starts blocks packets number verdict
 
 -- ---- the same
 

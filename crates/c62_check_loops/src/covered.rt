@@ -1,9 +1,10 @@
 //! Which blocks of a text are told with a loop (docs/CHECK.md, "The command").
 
-ghost use Rattle.std.specs.Prelude.{◌≡◌, ◌<◌};
+ghost use Rattle.std.specs.Prelude.{◌≡◌, ◌<◌, slice_get};
 ghost use Rattle.std.specs.Option.{option_copied};
-ghost use Rattle.c62_check_loops.specs.Covered.{belongs_to_loop, follows_loop, is_bare, is_empty, is_loop, is_straight, is_told_with_loop, leads_to_loop, stands_behind};
+ghost use Rattle.c62_check_loops.specs.Covered.{belongs_to_loop, follows_loop, is_bare, is_empty, is_loop, is_loose, is_straight, is_told, is_told_with_loop, leads_to_loop, stands_behind};
 
+use crate::verdict::{Loops, loop_at};
 use c62_check_loop::{counter_of, ends_with_branch};
 use c62_read::Block;
 
@@ -25,13 +26,20 @@ pub(crate) fn is_straight(block: Option<&Block>) -> bool
 }
 
 /// Whether there is a block, with neither label nor branch.
-pub(crate) fn is_bare(block: Option<&Block>) -> bool
+fn is_bare(block: Option<&Block>) -> bool
     ensures { result ≡ is_bare (option_copied block.entry) }
 {
     match block {
         Some(block) => block.label().is_none() && !ends_with_branch(block.insns()),
         None => false,
     }
+}
+
+/// The same of the block of this number.
+pub(crate) fn is_bare_at(blocks: &[Block], number: u8) -> bool
+    ensures { result ≡ is_bare (slice_get blocks.now number) }
+{
+    is_bare(blocks.get(usize::from(number)))
 }
 
 /// Whether there is a block, without instructions.
@@ -44,44 +52,61 @@ fn is_empty(block: Option<&Block>) -> bool
     }
 }
 
-/// Whether the block of this number stands before a loop, and belongs to it.
-pub(crate) fn leads_to_loop(blocks: &[Block], number: u8) -> bool
+/// Whether the block of this number has neither label nor branch, and leads to no loop.
+fn is_loose(blocks: &[Block], number: u8) -> bool
     requires { number < 255 }
-    ensures { result ≡ leads_to_loop blocks.now number }
+    ensures { result ≡ is_loose blocks.now number }
 {
-    is_loop(blocks, number + 1) && is_straight(blocks.get(usize::from(number)))
+    is_bare_at(blocks, number) && !is_loop(blocks, number + 1)
 }
 
-/// Whether the block of one number is a loop, and that of another has neither label nor branch.
-fn stands_behind(blocks: &[Block], before: u8, number: u8) -> bool
-    ensures { result ≡ stands_behind blocks.now before number }
+/// Whether the block of this number is told as a loop.
+fn is_told(loops: &Loops, number: u8) -> bool
+    ensures { result ≡ is_told loops.now.verdicts.items number }
 {
-    is_loop(blocks, before) && is_bare(blocks.get(usize::from(number)))
+    loop_at(loops, number).is_some()
 }
 
-/// Whether the block of this number stands behind a loop, and belongs to it.
-pub(crate) fn follows_loop(blocks: &[Block], number: u8) -> bool
-    ensures { result ≡ follows_loop blocks.now number }
+/// Whether the block of this number stands before a loop that is told, and belongs to it.
+pub(crate) fn leads_to_loop(blocks: &[Block], loops: &Loops, number: u8) -> bool
+    requires { number < 255 }
+    ensures { result ≡ leads_to_loop blocks.now loops.now.verdicts.items number }
+{
+    is_told(loops, number + 1) && is_straight(blocks.get(usize::from(number)))
+}
+
+/// Whether the block of one number is told as a loop, and that of another has neither label nor branch, and leads to no loop.
+fn stands_behind(blocks: &[Block], loops: &Loops, before: u8, number: u8) -> bool
+    requires { number < 255 }
+    ensures { result ≡ stands_behind blocks.now loops.now.verdicts.items before number }
+{
+    is_told(loops, before) && is_loose(blocks, number)
+}
+
+/// Whether the block of this number stands behind a loop that is told, and belongs to it.
+pub(crate) fn follows_loop(blocks: &[Block], loops: &Loops, number: u8) -> bool
+    requires { number < 255 }
+    ensures { result ≡ follows_loop blocks.now loops.now.verdicts.items number }
 {
     if number == 0 {
         false
     } else {
-        stands_behind(blocks, number - 1, number)
+        stands_behind(blocks, loops, number - 1, number)
     }
 }
 
-/// Whether the block of this number belongs to a loop.
-fn belongs_to_loop(blocks: &[Block], number: u8) -> bool
+/// Whether the block of this number belongs to a loop that is told.
+fn belongs_to_loop(blocks: &[Block], loops: &Loops, number: u8) -> bool
     requires { number < 255 }
-    ensures { result ≡ belongs_to_loop blocks.now number }
+    ensures { result ≡ belongs_to_loop blocks.now loops.now.verdicts.items number }
 {
-    leads_to_loop(blocks, number) || follows_loop(blocks, number)
+    leads_to_loop(blocks, loops, number) || follows_loop(blocks, loops, number)
 }
 
-/// Whether the block of this number, which is no loop, belongs to one, or has nothing in it.
-pub(crate) fn is_told_with_loop(blocks: &[Block], number: u8) -> bool
+/// Whether the block of this number, which isn't told as a loop, belongs to one that is, or has nothing in it.
+pub(crate) fn is_told_with_loop(blocks: &[Block], loops: &Loops, number: u8) -> bool
     requires { number < 255 }
-    ensures { result ≡ is_told_with_loop blocks.now number }
+    ensures { result ≡ is_told_with_loop blocks.now loops.now.verdicts.items number }
 {
-    belongs_to_loop(blocks, number) || is_empty(blocks.get(usize::from(number)))
+    belongs_to_loop(blocks, loops, number) || is_empty(blocks.get(usize::from(number)))
 }

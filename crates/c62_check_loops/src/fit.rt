@@ -2,11 +2,11 @@
 
 ghost use Rattle.std.specs.Prelude.{◌≡◌, ◌<◌, slice_get};
 ghost use Rattle.c62_check_rest.specs.Starts.{is_row};
-ghost use Rattle.c62_check_loops.specs.Covered.{is_bare, is_straight};
+ghost use Rattle.c62_check_loops.specs.Covered.{is_straight};
 ghost use Rattle.c62_check_loops.specs.Fit.{has_above, has_below, first_block, block_behind, is_alone, stands_there, is_passed, is_within, is_fit, are_all_rows};
 
-use crate::covered::{follows_loop, is_bare, is_loop, is_straight, leads_to_loop};
-use crate::verdict::BlockVerdict;
+use crate::covered::{follows_loop, is_bare_at, is_loop, is_straight, leads_to_loop};
+use crate::verdict::{BlockVerdict, Loops};
 use c62_check_loop::LoopVerdict;
 use c62_check_rest::{is_row, start_at};
 use c62_read::Block;
@@ -15,12 +15,6 @@ fn is_straight_at(blocks: &[Block], number: u8) -> bool
     ensures { result ≡ is_straight (slice_get blocks.now number) }
 {
     is_straight(blocks.get(usize::from(number)))
-}
-
-fn is_bare_at(blocks: &[Block], number: u8) -> bool
-    ensures { result ≡ is_bare (slice_get blocks.now number) }
-{
-    is_bare(blocks.get(usize::from(number)))
 }
 
 /// Whether the block above that of this number leads to it.
@@ -100,13 +94,13 @@ fn is_passed(starts: &[Option<usize>], number: u8) -> bool
 
 /// Whether the block of this number, which is told with a loop or has nothing in it, is entered with the loop to which it leads, not at all
 /// where it stands behind one, and else where the next block is.
-fn is_within(blocks: &[Block], starts: &[Option<usize>], number: u8) -> bool
+fn is_within(blocks: &[Block], loops: &Loops, starts: &[Option<usize>], number: u8) -> bool
     requires { number < 253 }
-    ensures { result ≡ is_within blocks.now starts.now number }
+    ensures { result ≡ is_within blocks.now loops.now.verdicts.items starts.now number }
 {
-    if leads_to_loop(blocks, number) {
+    if leads_to_loop(blocks, loops, number) {
         true
-    } else if follows_loop(blocks, number) {
+    } else if follows_loop(blocks, loops, number) {
         start_at(starts, usize::from(number)).is_none()
     } else {
         is_passed(starts, number)
@@ -116,19 +110,20 @@ fn is_within(blocks: &[Block], starts: &[Option<usize>], number: u8) -> bool
 /// Whether the rows of the block of this number are those from its start to that of what stands behind it.
 pub(crate) fn is_fit(
     blocks: &[Block],
+    loops: &Loops,
     starts: &[Option<usize>],
     number: u8,
     verdict: &BlockVerdict,
 ) -> bool
     requires { number < 253 }
-    ensures { result ≡ is_fit blocks.now starts.now number verdict.now }
+    ensures { result ≡ is_fit blocks.now loops.now.verdicts.items starts.now number verdict.now }
 {
     match verdict {
         BlockVerdict::Loop(LoopVerdict::Same { first, last, .. }) => is_alone(
             blocks, starts, number,
         ) && stands_there(blocks, starts, number, *first, *last),
         BlockVerdict::Loop(_) => false,
-        BlockVerdict::Within => is_within(blocks, starts, number),
+        BlockVerdict::Within => is_within(blocks, loops, starts, number),
         BlockVerdict::Rest(_) => true,
     }
 }

@@ -7,6 +7,7 @@ mod granted;
 pub mod laws;
 mod lines;
 mod promised;
+mod settled;
 mod told;
 mod verdict;
 

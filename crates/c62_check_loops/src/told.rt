@@ -12,7 +12,8 @@ ghost use Rattle.c62_check_loops.specs.Told.{AreLoopsTold, AreTold};
 use crate::fit::{are_all_rows, is_fit};
 use crate::lines::{push_line, push_rows};
 use crate::promised::promise_of;
-use crate::verdict::{BlockVerdict, Loops, is_good, is_same, loops_of, verdict_of};
+use crate::settled::told_loops;
+use crate::verdict::{BlockVerdict, Loops, is_good, is_same, verdict_of};
 use c62_check_rest::starts_of;
 use c62_command::{Promises, Trips};
 use c62_read::{Block, Program};
@@ -47,6 +48,7 @@ impl Told {
         &mut self,
         trips: &[Trips],
         blocks: &[Block],
+        loops: &Loops,
         starts: &[Option<usize>],
         number: u8,
         verdict: &BlockVerdict,
@@ -55,12 +57,12 @@ impl Told {
         ensures text { OnOk result (self.new.text.items ≡ self.old.text.items ++ line_at blocks.now number verdict.now) }
         ensures same { OnOk result (self.new.same ≡ (self.old.same && is_same verdict.now)) }
         ensures good { OnOk result (self.new.good ≡ (self.old.good && is_good (map trips_of trips.now) blocks.now number verdict.now)) }
-        ensures fit { OnOk result (self.new.fit ≡ (self.old.fit && is_fit blocks.now starts.now number verdict.now)) }
+        ensures fit { OnOk result (self.new.fit ≡ (self.old.fit && is_fit blocks.now loops.now.verdicts.items starts.now number verdict.now)) }
     {
         push_line(&mut self.text, blocks, number, verdict)?;
         self.same = self.same && is_same(verdict);
         self.good = self.good && is_good(trips, blocks, number, verdict);
-        self.fit = self.fit && is_fit(blocks, starts, number, verdict);
+        self.fit = self.fit && is_fit(blocks, loops, starts, number, verdict);
         Ok(())
     }
 }
@@ -77,7 +79,7 @@ fn tell(
 ) -> Result<Told, AllocError>
     requires few { length blocks.now ≤ MOST_BLOCKS }
     requires loops { AreLoopsOf blocks.now (text_of read.now.rows) loops.now }
-    ensures { IfOk result (AreTold (map trips_of trips.now) loops.now.promise starts.now blocks.now (text_of read.now.rows) (length blocks.now)) }
+    ensures { IfOk result (AreTold (map trips_of trips.now) loops.now.promise loops.now.verdicts.items starts.now blocks.now (text_of read.now.rows) (length blocks.now)) }
 {
     let mut told = Told {
         text: Vec::new(alloc),
@@ -87,7 +89,7 @@ fn tell(
     };
     for number in 0..blocks.len() {
         let verdict = verdict_of(alloc, blocks, number as u8, loops, starts, read)?;
-        told.add(trips, blocks, starts, number as u8, &verdict)?;
+        told.add(trips, blocks, loops, starts, number as u8, &verdict)?;
     }
     Ok(told)
 }
@@ -138,7 +140,7 @@ pub fn check_loops(
 {
     let promise = promise_of(&promises.apart);
     let blocks = program.blocks();
-    let loops = loops_of(alloc, blocks, read, promise)?;
+    let loops = told_loops(alloc, &promises.trips, blocks, read, promise)?;
     let starts = starts_of(alloc, blocks, &loops.verdicts, read)?;
     let told = tell(alloc, blocks, &loops, &starts, read, &promises.trips)?;
     let all = are_all_rows(&starts, blocks.len(), read.rows.rows.len());

@@ -6,7 +6,8 @@ ghost use Rattle.c62_rows.specs.Rows.{text_of};
 ghost use Rattle.c62_read.specs.declared.limits.TheConstants.{MOST_BLOCKS};
 ghost use Rattle.c62_command.specs.Promises.{trips_of};
 ghost use Rattle.c62_check_loops.specs.Lines.{label_in};
-ghost use Rattle.c62_check_loops.specs.Verdicts.{AreLoopVerdicts, AreLoopsOf, IsBlockTold, is_good, is_good_loop, is_same, loop_in};
+ghost use Rattle.c62_check_loops.specs.Covered.{is_told, loop_in};
+ghost use Rattle.c62_check_loops.specs.Verdicts.{AreLoopVerdicts, AreLoopsOf, IsBlockTold, is_good, is_good_loop, is_same};
 
 use crate::covered::is_told_with_loop;
 use crate::granted::is_granted;
@@ -56,7 +57,12 @@ fn is_good_loop(trips: &[Trips], label: Option<&Label>, verdict: LoopVerdict) ->
 }
 
 /// Whether the loop that the block of this number is, is the same with the trips that are promised.
-fn is_good_at(trips: &[Trips], blocks: &[Block], number: u8, verdict: LoopVerdict) -> bool
+pub(crate) fn is_good_at(
+    trips: &[Trips],
+    blocks: &[Block],
+    number: u8,
+    verdict: LoopVerdict,
+) -> bool
     ensures { result ≡ is_good_loop (map trips_of trips.now) (label_in (slice_get blocks.now number)) verdict }
 {
     match blocks.get(usize::from(number)) {
@@ -122,19 +128,21 @@ pub(crate) fn loops_of(
     })
 }
 
-/// What is told of the block of this number, which is no loop.
+/// What is told of the block of this number, of which nothing is told as a loop.
 fn other_of(
     alloc: Global,
     blocks: &[Block],
     number: u8,
+    loops: &Loops,
     starts: &[Option<usize>],
     read: &RowsText,
 ) -> Result<BlockVerdict, AllocError>
     requires few { number < 255 }
     requires within { number < length blocks.now }
-    ensures { (promise : Promise) → IfOk result (IsBlockTold promise starts.now blocks.now (text_of read.now.rows) number) }
+    requires none { is_told loops.now.verdicts.items number ≡ false }
+    ensures { IfOk result (IsBlockTold loops.now.promise loops.now.verdicts.items starts.now blocks.now (text_of read.now.rows) number) }
 {
-    if is_told_with_loop(blocks, number) {
+    if is_told_with_loop(blocks, loops, number) {
         return Ok(BlockVerdict::Within);
     }
     let block = &blocks[usize::from(number)];
@@ -142,10 +150,10 @@ fn other_of(
     Ok(BlockVerdict::Rest(verdict))
 }
 
-ghost use Rattle.c62_loop_match.specs.declared.promise.Promise.{Promise};
+ghost use Rattle.std.specs.Prelude.{false};
 
 /// What is told of the block of this number as a loop.
-fn loop_at(loops: &Loops, number: u8) -> Option<LoopVerdict>
+pub(crate) fn loop_at(loops: &Loops, number: u8) -> Option<LoopVerdict>
     ensures { result ≡ loop_in (slice_get loops.now.verdicts.items number) }
 {
     match loops.verdicts.get(usize::from(number)).copied() {
@@ -170,10 +178,10 @@ pub(crate) fn verdict_of(
     requires few { number < 255 }
     requires within { number < length blocks.now }
     requires loops { AreLoopsOf blocks.now (text_of read.now.rows) loops.now }
-    ensures { IfOk result (IsBlockTold loops.now.promise starts.now blocks.now (text_of read.now.rows) number) }
+    ensures { IfOk result (IsBlockTold loops.now.promise loops.now.verdicts.items starts.now blocks.now (text_of read.now.rows) number) }
 {
     match loop_at(loops, number) {
         Some(verdict) => Ok(BlockVerdict::Loop(verdict)),
-        None => other_of(alloc, blocks, number, starts, read),
+        None => other_of(alloc, blocks, number, loops, starts, read),
     }
 }

@@ -41,10 +41,10 @@ fn has_block_above(blocks: &[Block], number: usize) -> bool {
     }
 }
 
-/// Whether the block of this number belongs to the loop above it.
-fn is_behind_loop(blocks: &[Block], number: usize) -> bool {
+/// Whether the block of this number belongs to the loop above it, of which this is told.
+fn is_behind_loop(blocks: &[Block], loops: &[Option<LoopVerdict>], number: usize) -> bool {
     let follows = match number.checked_sub(1) {
-        Some(above) => is_loop(blocks, above),
+        Some(above) => loop_at(loops, above).is_some(),
         None => false,
     };
     match blocks.get(number) {
@@ -127,14 +127,14 @@ fn start_of(
     alloc: Global,
     blocks: &[Block],
     number: usize,
-    verdict: Option<LoopVerdict>,
+    loops: &[Option<LoopVerdict>],
     read: &RowsText,
     behind: Option<usize>,
 ) -> Result<Option<usize>, AllocError> {
-    if let Some(verdict) = verdict {
+    if let Some(verdict) = loop_at(loops, number) {
         return Ok(start_of_loop(blocks, number, verdict, behind));
     }
-    if number == 0 || is_behind_loop(blocks, number) {
+    if number == 0 || is_behind_loop(blocks, loops, number) {
         return Ok(if number == 0 { Some(0) } else { None });
     }
     match blocks.get(number).and_then(|block| block.label()) {
@@ -184,9 +184,9 @@ pub fn starts_of(
     let mut behind = Some(0);
     for number in 0..blocks.len() {
         let verdict = loop_at(loops, number);
-        let start = start_of(alloc, blocks, number, verdict, read, behind)?;
+        let start = start_of(alloc, blocks, number, loops, read, behind)?;
         starts.push(start)?;
-        if !is_behind_loop(blocks, number) {
+        if !is_behind_loop(blocks, loops, number) {
             behind = behind_of(blocks, number, verdict, &read.rows.rows, start);
         }
     }

@@ -6,5 +6,5 @@ use Rattle.c62_check_loops.proofs.told.tell.Given as goal
 
 -- what is told of the blocks so far
 abbrev pub invariant-loop-number : goal.invariant-loop-number
-invariant-loop-number l = AreTold (map trips_of l.trips) l.loops.promise l.starts l.blocks (text_of l.read.rows)
-    l.number l.told × (l.number ≤ length l.blocks)
+invariant-loop-number l = AreTold (map trips_of l.trips) l.loops.promise l.loops.verdicts.items l.starts l.blocks
+    (text_of l.read.rows) l.number l.told × (l.number ≤ length l.blocks)
