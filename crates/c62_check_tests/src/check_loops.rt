@@ -247,7 +247,59 @@ const PACKETS_TWO: &[(usize, &str)] = &[
     (1, "END:"),
 ];
 
-const ROWS: [Row; 21] = [
+/// The packets of the sum's block, and the same with an instruction a cycle early.
+const OWN: &[(usize, &str)] = &[
+    (1, "L: SUB .S1 A1,1,A1 || LDW .D1 *A4++,A2"),
+    (1, " [A1] B .S2 L"),
+    (1, " NOP 3"),
+    (1, " ADD .L1 A2,A3,A3"),
+    (1, " NOP 1"),
+];
+
+const OWN_EARLY: &[(usize, &str)] = &[
+    (1, "L: SUB .S1 A1,1,A1 || LDW .D1 *A4++,A2"),
+    (1, " [A1] B .S2 L"),
+    (1, " NOP 2"),
+    (1, " ADD .L1 A2,A3,A3"),
+    (1, " NOP 2"),
+];
+
+/// The sum counted by 2, and its block's packets.
+const BY_TWO: &str =
+    "L: LDW .D1 *A4++,A2\n ADD .L1 A2,A3,A3\n SUB .S1 A1,2,A1\n [A1] B .S2 L\n";
+
+const OWN_BY_TWO: &[(usize, &str)] = &[
+    (1, "L: SUB .S1 A1,2,A1 || LDW .D1 *A4++,A2"),
+    (1, " [A1] B .S2 L"),
+    (1, " NOP 3"),
+    (1, " ADD .L1 A2,A3,A3"),
+    (1, " NOP 1"),
+];
+
+/// A sum with instructions around it, above another, and packets of which the first's are its block's.
+const FIRST: &str =
+    " ZERO .L1 A3\nL: LDW .D1 *A4++,A2\n ADD .L1 A2,A3,A3\n SUB .S1 A1,1,A1\n [A1] B .S2 L\n MV .L1 A3,A5\nM: LDW .D1 *A6++,A7\n ADD .L1 A7,A8,A8\n SUB .S1 A1,1,A1\n [A1] B .S2 M\n";
+
+const PACKETS_FIRST: &[(usize, &str)] = &[
+    (1, " ZERO .L1 A3"),
+    (1, "L: SUB .S1 A1,1,A1 || LDW .D1 *A4++,A2"),
+    (1, " [A1] B .S2 L"),
+    (1, " NOP 3"),
+    (1, " ADD .L1 A2,A3,A3"),
+    (1, " NOP 1"),
+    (1, " SUB .S1 A1,6,A1 || MV .L1 A3,A5"),
+    (
+        5,
+        " [A1] SUB .S1 A1,1,A1 || [A1] B .S2 M || LDW .D1 *A6++,A7",
+    ),
+    (
+        1,
+        "M: [A1] SUB .S1 A1,1,A1 || [A1] B .S2 M || LDW .D1 *A6++,A7 || ADD .L1 A7,A8,A8",
+    ),
+    (5, " ADD .L1 A7,A8,A8"),
+];
+
+const ROWS: [Row; 27] = [
     // Trips that are promised, more than are wanted, too few, of another loop, or none.
     Row {
         text: SUM,
@@ -365,6 +417,44 @@ const ROWS: [Row; 21] = [
         packets: PACKETS_TWO,
         trips: &["L=6"],
         lines: "loop L same from 6 trips cycles 1\nblock 1 same\nloop M same from 6 trips cycles 1\nfalse",
+    },
+    // A loop's rows may be its block's own, whatever is promised of its trips,
+    Row {
+        text: SUM,
+        packets: OWN,
+        trips: &[],
+        lines: "block 0 same\ntrue",
+    },
+    Row {
+        text: SUM,
+        packets: OWN,
+        trips: &["L=1"],
+        lines: "loop L same from 1 trips cycles 7\ntrue",
+    },
+    Row {
+        text: SUM,
+        packets: OWN_EARLY,
+        trips: &[],
+        lines: "loop L early 5 after 2 needs 5 has 4 apart 0\nfalse",
+    },
+    Row {
+        text: BY_TWO,
+        packets: OWN_BY_TWO,
+        trips: &[],
+        lines: "block 0 same\ntrue",
+    },
+    // and what stands around it is then held as other blocks are.
+    Row {
+        text: FIRST,
+        packets: PACKETS_FIRST,
+        trips: &["M=6"],
+        lines: "block 0 same\nblock 1 same\nloop M same from 6 trips cycles 1\ntrue",
+    },
+    Row {
+        text: FIRST,
+        packets: PACKETS_FIRST,
+        trips: &["M=5"],
+        lines: "loop L same from 1 trips cycles 7\nloop M same from 6 trips cycles 1\nfalse",
     },
     // Nothing is the same as nothing.
     Row {

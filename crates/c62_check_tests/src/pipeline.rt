@@ -29,7 +29,9 @@ fn kept_text(alloc: Global, kept: Kept) -> Result<String, AllocError> {
             let shortness = shortness_text(alloc, shortness)?;
             format!(in alloc; "{cycles} {stages} {shortness}")
         }
+        Kept::NoCounter => format!(in alloc; "counter"),
         Kept::NoTrips => format!(in alloc; "trips"),
+        Kept::MayMeet(first, second) => format!(in alloc; "meet {first} {second}"),
         Kept::NotShorter => format!(in alloc; "longer"),
         Kept::NotChecked => format!(in alloc; "unchecked"),
     }
@@ -53,8 +55,9 @@ fn told(
     }
     let pipelining = pipeline(alloc, &program, &packets, promises)?;
     let mut lines = String::new(alloc);
-    for (number, kept) in &pipelining.loops {
-        let kept = kept_text(alloc, *kept)?;
+    for choice in &pipelining.loops {
+        let number = choice.number;
+        let kept = kept_text(alloc, choice.kept)?;
         lines.push_str(&format!(in alloc; "{number} {kept}\n")?)?;
     }
     if let Ok(text) = String::from_utf8(pipelining.text) {
@@ -100,6 +103,9 @@ const BY_TWO: &str =
 
 const BY_TWO_PACKETS: &str =
     "L:\n   SUB .S1 A1,1,A1\n|| LDW .D1T1 *A4++[1],A2\n   [A1] B .S2 L\n   NOP 3\n   ADD .L1 A2,A3,A3\n   NOP 1\n\nM:\n   SUB .S1 A2,2,A2\n|| LDW .D1T1 *A6++[1],A7\n   [A2] B .S2 M\n   NOP 3\n   ADD .L1 A7,A8,A8\n   NOP 1\n";
+
+const BY_TWO_SECOND: &str =
+    "\nM:\n   SUB .S1 A2,2,A2\n|| LDW .D1T1 *A6++[1],A7\n   [A2] B .S2 M\n   NOP 3\n   ADD .L1 A7,A8,A8\n   NOP 1\n";
 
 /// A program, its own packets, the trips that are promised, what is told of its loops, and the packets that are written.
 struct Row {
@@ -153,13 +159,13 @@ const ROWS: [Row; 6] = [
         told: "0 1 6 shortest\n1 trips\n",
         written: &[PIPELINED, SECOND_PACKETS],
     },
-    // and where the check doesn't tell that these do what it does, from one trip on, all have.
+    // however it counts.
     Row {
         text: BY_TWO,
         listing: BY_TWO_PACKETS,
         trips: &["L=6"],
-        told: "0 unchecked\n1 trips\n",
-        written: &[BY_TWO_PACKETS],
+        told: "0 1 6 shortest\n1 counter\n",
+        written: &[PIPELINED, BY_TWO_SECOND],
     },
 ];
 

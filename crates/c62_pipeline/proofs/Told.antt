@@ -1,5 +1,5 @@
 -- Packets that are told to do the same.
-use Rattle.std.proofs.Common.{◌≡◌, ℕ, Bool, true, List, subst}
+use Rattle.std.proofs.Common.{◌≡◌, ℕ, Bool, true, List, subst, inl, inr}
 use Rattle.clap.specs.Words.{Text as Name}
 use Rattle.c62_op.specs.declared.register.Reg.{Reg}
 use Rattle.c62_read.specs.Block.{Serial}
@@ -7,7 +7,11 @@ use Rattle.c62_rows.specs.declared.text.RowsText.{RowsText}
 use Rattle.c62_rows.specs.Rows.{text_of}
 use Rattle.c62_rows.specs.Told.{names_of, ReadsAs}
 use Rattle.c62_check_loops.specs.Told.{AreLoopsTold}
+use Rattle.c62_packet.specs.Packed.{Packed}
+use Rattle.c62_check_loops.proofs.Done.{loops_do_the_same}
+use Rattle.c62_pipeline.specs.declared.written.Pipelining.{Pipelining}
 use Rattle.c62_pipeline.specs.Checked.{IsChecked}
+use Rattle.c62_pipeline.specs.Laws.{WhatIsWrittenIsDone}
 
 pub checked_text : (trips : List (Name × ℕ)) (apart : List Reg) (blocks : List Serial) (read : RowsText)
     (lines : List ℕ) (same : Bool) (text : List ℕ) → ReadsAs text read
@@ -20,8 +24,15 @@ checked_text trips apart blocks read lines same text is told holds = record {
   told = subst (λ b. AreLoopsTold trips apart blocks (text_of read.rows) lines b) holds told;
 }
 
-pub checked_as : (trips new : List (Name × ℕ)) (apart same : List Reg) (blocks : List Serial) (text : List ℕ)
-    → new ≡ trips → same ≡ apart → IsChecked new same blocks text → IsChecked trips apart blocks text
-checked_as trips new apart same blocks text trips_are apart_is told =
-    subst (λ (t : List (Name × ℕ)). IsChecked t apart blocks text) trips_are
-    (subst (λ (a : List Reg). IsChecked new a blocks text) apart_is told)
+pub written_done : (trips : List (Name × ℕ)) (apart : List Reg) (blocks : List Serial) (own : List Packed)
+    (written : Pipelining) → WhatIsWrittenIsDone trips apart blocks own written
+written_done trips apart blocks own written is =
+    elim is.does [
+      | inl told ↦ inl (record {
+        packets = told.packets;
+        labels = told.labels;
+        read = told.read;
+        done = loops_do_the_same trips apart blocks told.packets told.lines told.told;
+      })
+      | inr kept ↦ inr kept
+    ]

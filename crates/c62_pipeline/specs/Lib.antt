@@ -1,2 +1,6 @@
-pub mod Promised
+pub mod Meeting
+pub mod Chosen
 pub mod Checked
+pub mod Lines
+pub mod Kernel
+pub mod Laws

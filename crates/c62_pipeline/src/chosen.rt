@@ -1,20 +1,26 @@
 //! Which packets stand for which block.
 
-ghost use Rattle.std.specs.Prelude.{IsFalse};
-ghost use Rattle.c62_pipeline.specs.Checked.{is_pipelined};
+ghost use Rattle.std.specs.Prelude.{◌≡◌, ℕ, IfOk, IfSome, Some, None, slice_get};
+ghost use Rattle.c62_loop.specs.Loop.{Region as Counted};
+ghost use Rattle.c62_loop_match.specs.declared.promise.Promise.{Promise as OfAccesses};
+ghost use Rattle.c62_loop_match.specs.Parts.{region_of as region_read};
+ghost use Rattle.c62_loop_match.specs.Promise.{promises};
+ghost use Rattle.c62_modulo.specs.Made.{IsMade};
+ghost use Rattle.c62_pipeline.specs.Chosen.{IsChosen, IsFound, IsFoundOf, IsReason, loop_alone, told_kept};
 
+use crate::meeting::{Meeting, all_apart, meeting_in};
 use c62_check_loop::counter_of;
 use c62_check_loops::promise_of;
 use c62_command::{Promises, Trips};
-use c62_insn::Reg;
+use c62_insn::{Operands, Reg};
 use c62_line::Label;
-use c62_loop_match::{Pipelined, Region};
+use c62_loop_match::{Pipelined, Region, is_counted_loop};
 use c62_modulo::{Made, Shortness, Terms, pipelined};
 use c62_packet::PacketBlock;
-use c62_read::Block;
+use c62_read::{Block, SerialInsn};
 use std::alloc::{AllocError, Global};
 
-/// What became of a loop under a counter.
+/// What became of a loop.
 #[derive(Clone, Copy, PartialEq, Eq, Debug)]
 pub enum Kept {
     /// It has packets of its own.
@@ -26,23 +32,78 @@ pub enum Kept {
         /// Whether any packets of it can have a shorter trip.
         shortness: Shortness,
     },
-    /// It has the packets of its block: no trips of it are promised,
+    /// It has the packets of its block: nothing counts its trips,
+    NoCounter,
+    /// or none of them are promised,
     NoTrips,
+    /// or those that take fewer cycles a trip need the accesses of these two lines apart, which isn't promised,
+    MayMeet(u32, u32),
     /// or none are found that take fewer cycles a trip within the trips that are promised,
     NotShorter,
     /// or those found aren't told to do the same.
     NotChecked,
 }
 
-impl Kept {
-    /// The same where each block has its own packets.
-    pub(crate) fn given_up(self) -> Kept
-        ensures { IsFalse (is_pipelined result) }
+/// What is found for a block that is a loop.
+#[derive(Drop)]
+pub struct Choice {
+    /// The number of the block.
+    pub number: u8,
+    /// Its packets, where they are its own.
+    pub made: Option<Made>,
+    /// What became of it.
+    pub kept: Kept,
+}
+
+impl Choice {
+    fn without(number: u8, kept: Kept) -> Choice
+        ensures number { result.number ≡ number }
+        ensures made { result.made ≡ None }
+        ensures kept { result.kept ≡ kept }
     {
-        match self {
-            Kept::Pipelined { .. } | Kept::NotChecked => Kept::NotChecked,
-            Kept::NoTrips => Kept::NoTrips,
-            Kept::NotShorter => Kept::NotShorter,
+        Choice {
+            number,
+            made: None,
+            kept,
+        }
+    }
+
+    fn with(number: u8, made: Made) -> Choice
+        ensures { (promise : OfAccesses) (region : Counted) (trips longest : ℕ) → region.number ≡ number
+            → IsMade (promises promise) region trips longest made → IsFound promise region result }
+    {
+        let shortness = made.shortness();
+        Choice {
+            number,
+            kept: Kept::Pipelined {
+                cycles: made.interval,
+                stages: u16::from(made.most) + 1,
+                shortness,
+            },
+            made: Some(made),
+        }
+    }
+
+    /// Whether the loop has packets of its own.
+    pub(crate) fn is_pipelined(&self) -> bool {
+        self.made.is_some()
+    }
+
+    /// What became of the loop, where it was given up or not.
+    pub(crate) fn told(&self, is_given_up: bool) -> Kept
+        ensures { result ≡ told_kept is_given_up self.now }
+    {
+        match &self.made {
+            Some(_) if is_given_up => Kept::NotChecked,
+            _ => self.kept,
+        }
+    }
+
+    /// The packets that the loop has in place of its block's.
+    pub(crate) fn packets(&self) -> Option<&Pipelined> {
+        match &self.made {
+            Some(made) => Some(&made.pipelined),
+            None => None,
         }
     }
 }
@@ -58,8 +119,21 @@ fn trips_of(trips: &[Trips], label: &Label) -> Option<u32> {
     most
 }
 
+/// Whether these end with a branch to the block of this number.
+fn is_loop(insns: &[SerialInsn], number: u8) -> bool {
+    match insns.last() {
+        Some(last) => match last.insn.operands() {
+            Operands::Block(target) => target == number,
+            _ => false,
+        },
+        None => false,
+    }
+}
+
 /// A loop without the instructions around it.
-fn region_of(alloc: Global, block: &Block, number: u8, counter: Reg) -> Result<Region, AllocError> {
+fn region_of(alloc: Global, block: &Block, number: u8, counter: Reg) -> Result<Region, AllocError>
+    ensures { IfOk result (λ region. region_read region ≡ loop_alone number block.now counter) }
+{
     Ok(Region {
         before: Vec::new(alloc),
         body: Vec::from_slice(alloc, block.insns())?,
@@ -69,55 +143,81 @@ fn region_of(alloc: Global, block: &Block, number: u8, counter: Reg) -> Result<R
     })
 }
 
-/// What is found for a loop.
-#[derive(Drop)]
-pub(crate) struct Choice {
-    /// Its packets, where they are its own.
-    pub pipelined: Option<Pipelined>,
-    pub kept: Kept,
+/// Whether packets are found of a loop where all its accesses are apart.
+fn is_found_apart(alloc: Global, region: &Region, terms: Terms) -> Result<bool, AllocError> {
+    let promise = all_apart(&region.body);
+    Ok(pipelined(alloc, region, Terms { promise, ..terms })?.is_some())
 }
 
-impl Choice {
-    fn without(kept: Kept) -> Choice {
-        Choice {
-            pipelined: None,
-            kept,
+/// Why no packets are found of a loop: two accesses that may meet, if it lies at these.
+fn reason_of(alloc: Global, region: &Region, terms: Terms) -> Result<Kept, AllocError>
+    ensures { IfOk result (IsReason terms.promise (region_read region.now).body) }
+{
+    match meeting_in(terms.promise, &region.body) {
+        Some(Meeting { first, second }) if is_found_apart(alloc, region, terms)? => {
+            Ok(Kept::MayMeet(first, second))
         }
-    }
-
-    fn with(made: Made) -> Choice {
-        let shortness = made.shortness();
-        Choice {
-            pipelined: Some(made.pipelined),
-            kept: Kept::Pipelined {
-                cycles: made.interval,
-                stages: u16::from(made.most) + 1,
-                shortness,
-            },
-        }
-    }
-
-    /// Whether the loop has packets of its own.
-    pub(crate) fn is_pipelined(&self) -> bool {
-        self.pipelined.is_some()
-    }
-
-    /// The loop has the packets of its block again, if it had others.
-    pub(crate) fn give_up(&mut self) {
-        self.pipelined = None;
-        self.kept = self.kept.given_up();
+        _ => Ok(Kept::NotShorter),
     }
 }
 
 /// What is found for a loop of which so many trips are promised, and whose block takes so many cycles.
-fn found(alloc: Global, region: &Region, terms: Terms) -> Result<Choice, AllocError> {
+fn found(alloc: Global, region: &Region, terms: Terms) -> Result<Choice, AllocError>
+    ensures { IfOk result (IsFound terms.promise (region_read region.now)) }
+{
     match pipelined(alloc, region, terms)? {
-        Some(made) => Ok(Choice::with(made)),
-        None => Ok(Choice::without(Kept::NotShorter)),
+        Some(made) => Ok(Choice::with(region.number, made)),
+        None => Ok(Choice::without(region.number, reason_of(alloc, region, terms)?)),
     }
 }
 
-/// What is found for the block of this number, whose own packets take so many cycles. `None` where it is no loop under a counter.
+/// What is found for a loop under a counter, whose block's own packets take so many cycles.
+fn counted(
+    alloc: Global,
+    label: &Label,
+    region: &Region,
+    longest: u16,
+    promises: &Promises,
+) -> Result<Choice, AllocError>
+    ensures { IfOk result (IsFoundOf promises.now.apart.items (region_read region.now)) }
+{
+    let promise = promise_of(&promises.apart);
+    let Some(trips) = trips_of(&promises.trips, label) else {
+        return Ok(Choice::without(region.number, Kept::NoTrips));
+    };
+    let terms = Terms {
+        promise,
+        trips,
+        longest: longest.saturating_sub(1),
+    };
+    found(alloc, region, terms)
+}
+
+/// What is found for a block that is a loop: that with this number, and this label.
+fn loop_choice(
+    alloc: Global,
+    blocks: &[Block],
+    block: &Block,
+    number: u8,
+    longest: u16,
+    promises: &Promises,
+) -> Result<Choice, AllocError>
+    requires { slice_get blocks.now number ≡ Some block.now }
+    ensures { IfOk result (IsChosen promises.now.apart.items blocks.now) }
+{
+    let (Some(counter), Some(label)) = (counter_of(blocks, usize::from(number)), block.label())
+    else {
+        return Ok(Choice::without(number, Kept::NoCounter));
+    };
+    let region = region_of(alloc, block, number, counter)?;
+    if is_counted_loop(&region) {
+        counted(alloc, label, &region, longest, promises)
+    } else {
+        Ok(Choice::without(number, Kept::NoCounter))
+    }
+}
+
+/// What is found for the block of this number, whose own packets take so many cycles. `None` where it is no loop.
 ///
 /// # Errors
 ///
@@ -128,24 +228,18 @@ pub(crate) fn choice_of(
     number: u8,
     own: &PacketBlock,
     promises: &Promises,
-) -> Result<Option<Choice>, AllocError> {
-    let Some(counter) = counter_of(blocks, usize::from(number)) else {
-        return Ok(None);
-    };
-    let Some(block) = blocks.get(usize::from(number)) else {
-        return Ok(None);
-    };
-    let Some(label) = block.label() else {
-        return Ok(None);
-    };
-    let Some(trips) = trips_of(&promises.trips, label) else {
-        return Ok(Some(Choice::without(Kept::NoTrips)));
-    };
-    let region = region_of(alloc, block, number, counter)?;
-    let terms = Terms {
-        promise: promise_of(&promises.apart),
-        trips,
-        longest: own.length().saturating_sub(1),
-    };
-    Ok(Some(found(alloc, &region, terms)?))
+) -> Result<Option<Choice>, AllocError>
+    ensures { IfOk result (λ choice. IfSome choice (IsChosen promises.now.apart.items blocks.now)) }
+{
+    match blocks.get(usize::from(number)) {
+        Some(block) if is_loop(block.insns(), number) => Ok(Some(loop_choice(
+            alloc,
+            blocks,
+            block,
+            number,
+            own.length(),
+            promises,
+        )?)),
+        _ => Ok(None),
+    }
 }

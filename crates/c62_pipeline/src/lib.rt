@@ -1,12 +1,17 @@
 //! Writes packets of a program whose loops are software pipelined: such that the check of loops tells that they do what the program does, and
-//! else each block's own.
+//! else each block's own. Tells what became of each loop, and draws the kernels.
 #![tactic(auto)]
 
 mod checked;
 mod chosen;
-mod promised;
+mod kernel;
+pub mod laws;
+mod lines;
+mod meeting;
 mod splice;
 mod written;
 
-pub use chosen::Kept;
+pub use chosen::{Choice, Kept};
+pub use kernel::kernels;
+pub use lines::loop_lines;
 pub use written::{Pipelining, pipeline};

@@ -7,15 +7,18 @@ use c62_read::{Block, first_line};
 use std::alloc::{AllocError, Global};
 
 /// The packets that the block of this number has in place of its own.
-fn others_of<'a>(choices: &'a [Option<Choice>], number: usize) -> Option<&'a Pipelined> {
-    choices.get(number)?.as_ref()?.pipelined.as_ref()
+fn others_of<'a>(choices: &'a [Choice], number: usize) -> Option<&'a Pipelined> {
+    choices
+        .iter()
+        .find(|choice| usize::from(choice.number) == number)?
+        .packets()
 }
 
 /// The text of the packets that a loop has in place of its block's, and no text where it has none.
 fn others_text(
     alloc: Global,
     blocks: &[Block],
-    choices: &[Option<Choice>],
+    choices: &[Choice],
     number: usize,
 ) -> Result<String, AllocError> {
     let mut text = String::new(alloc);
@@ -33,7 +36,7 @@ fn push_others(
     alloc: Global,
     out: &mut Vec<u8>,
     blocks: &[Block],
-    choices: &[Option<Choice>],
+    choices: &[Choice],
     number: usize,
 ) -> Result<(), AllocError> {
     let text = others_text(alloc, blocks, choices, number)?;
@@ -55,7 +58,7 @@ pub(crate) fn spliced(
     alloc: Global,
     listing: &[u8],
     blocks: &[Block],
-    choices: &[Option<Choice>],
+    choices: &[Choice],
 ) -> Result<Vec<u8>, AllocError> {
     let mut out = Vec::with_capacity(alloc, listing.len())?;
     let mut number = 0usize;

@@ -1,20 +1,19 @@
 //! Pipelines the loops of a program.
 
-ghost use Rattle.std.specs.Prelude.{◌≡◌, IfOk, IfSome, IsTrue, IsFalse, All, map};
-ghost use Rattle.std.specs.Bool.{OnTrue};
+ghost use Rattle.std.specs.Prelude.{◌≡◌, IfOk, IfSome, IsTrue, OnOk, All, map};
 ghost use Rattle.c62_packet.specs.Packets.{is_closed};
 ghost use Rattle.c62_listing.specs.Listing.{listing};
 ghost use Rattle.c62_command.specs.Promises.{trips_of};
-ghost use Rattle.c62_pipeline.specs.Checked.{AreTold, IsTold, IsWritten, is_pipelined};
+ghost use Rattle.c62_pipeline.specs.Chosen.{IsChosen};
+ghost use Rattle.c62_pipeline.specs.Checked.{IsChecked, IsWritten, IsWrittenOf};
 
 use crate::checked::is_checked;
-use crate::chosen::{Choice, Kept, choice_of};
-use crate::promised::with_ones;
+use crate::chosen::{Choice, choice_of};
 use crate::splice::spliced;
 use c62_command::Promises;
 use c62_listing::list;
-use c62_packet::Packets;
-use c62_read::Program;
+use c62_packet::{PacketBlock, Packets};
+use c62_read::{Block, Program};
 use std::alloc::{AllocError, Global};
 
 /// Packets of a program, some of whose loops are pipelined.
@@ -22,124 +21,102 @@ use std::alloc::{AllocError, Global};
 pub struct Pipelining {
     /// The text of the packets.
     pub text: Vec<u8>,
-    /// What became of each block that is a loop under a counter, by its number.
-    pub loops: Vec<(u8, Kept)>,
+    /// What is found for each block that is a loop, in their order.
+    pub loops: Vec<Choice>,
+    /// So many of these, from the first on, have their block's packets all the same, as what is found isn't told to do what they do.
+    pub given_up: usize,
 }
 
-/// What is found for each block.
+/// Adds what is found for the block of this number, where it is a loop.
+fn push_choice(
+    alloc: Global,
+    choices: &mut Vec<Choice>,
+    blocks: &[Block],
+    number: u8,
+    own: &PacketBlock,
+    promises: &Promises,
+) -> Result<(), AllocError>
+    ensures { All (IsChosen promises.now.apart.items blocks.now) choices.old.items
+        → OnOk result (All (IsChosen promises.now.apart.items blocks.now) choices.new.items) }
+{
+    match choice_of(alloc, blocks, number, own, promises)? {
+        Some(choice) => {
+            choices.push(choice)?;
+            Ok(())
+        }
+        None => Ok(()),
+    }
+}
+
+/// What is found for each block that is a loop.
 fn choices_of(
     alloc: Global,
     program: &Program,
     packets: &Packets,
     promises: &Promises,
-) -> Result<Vec<Option<Choice>>, AllocError> {
+) -> Result<Vec<Choice>, AllocError>
+    ensures { IfOk result (λ choices. All (IsChosen promises.now.apart.items program.now) choices.items) }
+{
     let blocks = program.blocks();
     let mut choices = Vec::new(alloc);
-    for (number, own) in packets.blocks().iter().enumerate() {
-        let choice = match u8::try_from(number) {
-            Ok(number) => choice_of(alloc, blocks, number, own, promises)?,
-            Err(_) => None,
-        };
-        choices.push(choice)?;
+    let mut number = 0u8;
+    for own in packets.blocks() {
+        push_choice(alloc, &mut choices, blocks, number, own, promises)?;
+        number = number.saturating_add(1);
     }
     Ok(choices)
 }
 
-/// What became of the blocks that are loops.
-fn kept_of(alloc: Global, choices: &[Option<Choice>]) -> Result<Vec<(u8, Kept)>, AllocError> {
-    let mut loops = Vec::new(alloc);
-    for (number, choice) in choices.iter().enumerate() {
-        if let (Ok(number), Some(choice)) = (u8::try_from(number), choice) {
-            loops.push((number, choice.kept))?;
-        }
-    }
-    Ok(loops)
-}
-
-/// Whether a text is one of packets that do what the program does, where so much is promised, and loops of which no trips are have one.
-#[tactic(auto, using(crate::proofs::Told::checked_as))]
-fn is_checked_with(
-    alloc: Global,
-    program: &Program,
-    text: &[u8],
-    loops: &[(u8, Kept)],
-    promises: &Promises,
-) -> Result<bool, AllocError>
-    ensures { IfOk result (λ checked. OnTrue checked
-        (IsTold (map trips_of promises.now.trips.items) promises.now.apart.items program.now text.now loops.now)) }
-{
-    let promises = with_ones(alloc, program.blocks(), loops, promises)?;
-    is_checked(alloc, program, text, &promises)
-}
-
-/// The packets with these choices, where they do what the program does.
+/// The text with these choices, where it is one of packets that do what the program does.
 fn checked_text(
     alloc: Global,
     program: &Program,
     listing: &[u8],
-    choices: &[Option<Choice>],
+    choices: &[Choice],
     promises: &Promises,
-) -> Result<Option<Pipelining>, AllocError>
-    ensures { IfOk result (λ written. IfSome written
-        (AreTold (map trips_of promises.now.trips.items) promises.now.apart.items program.now)) }
+) -> Result<Option<Vec<u8>>, AllocError>
+    ensures { IfOk result (λ text. IfSome text (λ text.
+        IsChecked (map trips_of promises.now.trips.items) promises.now.apart.items program.now text.items)) }
 {
     let text = spliced(alloc, listing, program.blocks(), choices)?;
-    let loops = kept_of(alloc, choices)?;
-    if is_checked_with(alloc, program, &text, &loops, promises)? {
-        Ok(Some(Pipelining { text, loops }))
+    if is_checked(alloc, program, &text, promises)? {
+        Ok(Some(text))
     } else {
         Ok(None)
     }
 }
 
-/// The block of this number has its own packets again, if it had others.
-fn give_up(choices: &mut [Option<Choice>], number: usize) {
-    if let Some(Some(choice)) = choices.get_mut(number) {
-        choice.give_up();
-    }
-}
-
-/// Whether a block has other packets than its own.
-fn is_pipelined(choice: &Option<Choice>) -> bool {
-    match choice {
-        Some(choice) => choice.is_pipelined(),
-        None => false,
-    }
-}
-
-/// The packets with as many of these choices as are told to do what the program does: where all together aren't, one after the other is
-/// given up. `None` where none is left.
-fn text_of(
+/// Packets with as many of these choices as are told to do what the program does: where all together aren't, one after the other is given
+/// up. Where none is left, each block has its own.
+fn written_of(
     alloc: Global,
     program: &Program,
-    listing: &[u8],
-    choices: &mut [Option<Choice>],
+    listing: Vec<u8>,
+    choices: Vec<Choice>,
     promises: &Promises,
-) -> Result<Option<Pipelining>, AllocError>
-    ensures { IfOk result (λ written. IfSome written
-        (AreTold (map trips_of promises.now.trips.items) promises.now.apart.items program.now)) }
+) -> Result<Pipelining, AllocError>
+    requires { All (IsChosen promises.now.apart.items program.now) choices.items }
+    ensures { IfOk result (IsWrittenOf (map trips_of promises.now.trips.items) promises.now.apart.items program.now listing.items) }
 {
-    for number in 0..choices.len() {
-        if !choices.iter().any(is_pipelined) {
-            return Ok(None);
+    for given_up in 0..choices.len() {
+        let left = &choices[given_up..];
+        if !left.iter().any(|choice| choice.is_pipelined()) {
+            break;
         }
-        if let Some(written) = checked_text(alloc, program, listing, choices, promises)? {
-            return Ok(Some(written));
+        if let Some(text) = checked_text(alloc, program, &listing, left, promises)? {
+            return Ok(Pipelining {
+                text,
+                loops: choices,
+                given_up,
+            });
         }
-        give_up(choices, number);
     }
-    Ok(None)
-}
-
-/// The same where each block has its own packets.
-fn given_up(alloc: Global, loops: &[(u8, Kept)]) -> Result<Vec<(u8, Kept)>, AllocError>
-    ensures { IfOk result (λ loops. All (λ one. IsFalse (is_pipelined one.1)) loops.items) }
-{
-    let mut kept = Vec::new(alloc);
-    for (number, one) in loops {
-        kept.push((*number, one.given_up()))?;
-    }
-    Ok(kept)
+    let given_up = choices.len();
+    Ok(Pipelining {
+        text: listing,
+        loops: choices,
+        given_up,
+    })
 }
 
 /// The listing of packets.
@@ -150,25 +127,9 @@ fn listing_of(alloc: Global, packets: &Packets) -> Result<Vec<u8>, AllocError>
     Ok(list(alloc, packets)?.into_bytes())
 }
 
-/// Each block's own packets.
-fn own_of(
-    alloc: Global,
-    listing: Vec<u8>,
-    choices: &[Option<Choice>],
-) -> Result<Pipelining, AllocError>
-    ensures text { IfOk result (λ written. written.text.items ≡ listing.items) }
-    ensures loops { IfOk result (λ written. All (λ one. IsFalse (is_pipelined one.1)) written.loops.items) }
-{
-    let loops = kept_of(alloc, choices)?;
-    Ok(Pipelining {
-        text: listing,
-        loops: given_up(alloc, &loops)?,
-    })
-}
-
 /// Packets of a program, of which these are each block's own: each loop under a counter has software pipelined ones where so many trips
 /// of it are promised that they do what it does, where they take fewer cycles a trip, and where the check of loops says so of the
-/// whole text. Other blocks have their own, and so has a loop of which no trips are promised: the check is then promised one trip of it.
+/// whole text. Other blocks have their own.
 ///
 /// # Errors
 ///
@@ -183,9 +144,6 @@ pub fn pipeline(
     ensures { IfOk result (IsWritten (map trips_of promises.now.trips.items) promises.now.apart.items program.now packets.now) }
 {
     let own = listing_of(alloc, packets)?;
-    let mut choices = choices_of(alloc, program, packets, promises)?;
-    match text_of(alloc, program, &own, &mut choices, promises)? {
-        Some(written) => Ok(written),
-        None => own_of(alloc, own, &choices),
-    }
+    let choices = choices_of(alloc, program, packets, promises)?;
+    written_of(alloc, program, own, choices, promises)
 }

@@ -1,0 +1,87 @@
+-- What is found for a block that is a loop (docs/SCHEDULING.md, "Loops of a program").
+use Rattle.std.specs.Prelude.{◌≡◌, ◌⊎◌, ℕ, ◌+◌, Bool, true, false, List, [], slice_get, Option, Some, None}
+use Rattle.c62_op.specs.declared.register.Reg.{Reg}
+use Rattle.c62_read.specs.declared.block.SerialInsn.{SerialInsn}
+use Rattle.c62_read.specs.Block.{Serial}
+use Rattle.c62_loop.specs.Loop.{Region}
+use Rattle.c62_loop_match.specs.declared.promise.Promise.{Promise}
+use Rattle.c62_loop_match.specs.Promise.{promises}
+use Rattle.c62_modulo.specs.declared.made.Made.{Made}
+use Rattle.c62_modulo.specs.declared.made.Shortness.{Shortness}
+use Rattle.c62_modulo.specs.Made.{IsMade, IsShown}
+use Rattle.c62_check_loop.specs.Region.{counter_of}
+use Rattle.c62_check_loops.specs.Promised.{IsPromiseOf}
+use Rattle.c62_pipeline.specs.declared.chosen.Kept.{Kept}
+use Rattle.c62_pipeline.specs.declared.chosen.Kept.TheVariants.{Pipelined, NoCounter, NoTrips, MayMeet, NotShorter, NotChecked}
+use Rattle.c62_pipeline.specs.declared.chosen.Choice.{Choice}
+use Rattle.c62_pipeline.specs.Meeting.{meeting_of}
+
+-- the loop that a block is, without the instructions around it
+abbrev pub loop_alone : ℕ → Serial → Reg → Region
+loop_alone number block counter = record { before = []; body = block.insns; behind = []; counter = counter; number = number }
+
+-- These packets do what the loop does from so many trips on, each of so many cycles, and of how short one can be this is known.
+pub record IsPipelined (promise : Promise) (region : Region) (cycles stages : ℕ) (shortness : Shortness) (made : Made) : Type 0 where
+  pub trips : ℕ
+  pub longest : ℕ
+  pub is : IsMade (promises promise) region trips longest made
+  pub takes : cycles ≡ made.interval
+  pub enters : stages ≡ made.most + 1
+  pub shown : IsShown promise region cycles shortness
+
+-- no packets are told, and where it is said to lie at two accesses, these may meet
+abbrev pub IsReason : Promise → List SerialInsn → Kept → Type 0
+IsReason promise body (Pipelined cycles stages known) = ⊥
+IsReason promise body NoCounter = Unit {0}
+IsReason promise body NoTrips = Unit {0}
+IsReason promise body (MayMeet first second) = meeting_of promise body ≡ Some (record { first = first; second = second })
+IsReason promise body NotShorter = Unit {0}
+IsReason promise body NotChecked = Unit {0}
+
+abbrev pub IsPipelinedAs : Promise → Region → Made → Kept → Type 0
+IsPipelinedAs promise region made (Pipelined cycles stages known) = IsPipelined promise region cycles stages known made
+IsPipelinedAs promise region made NoCounter = ⊥
+IsPipelinedAs promise region made NoTrips = ⊥
+IsPipelinedAs promise region made (MayMeet first second) = ⊥
+IsPipelinedAs promise region made NotShorter = ⊥
+IsPipelinedAs promise region made NotChecked = ⊥
+
+-- the packets of a loop are told as they are, or why it has none
+abbrev pub IsToldAs : Promise → Region → Option Made → Kept → Type 0
+IsToldAs promise region None kept = IsReason promise region.body kept
+IsToldAs promise region (Some made) kept = IsPipelinedAs promise region made kept
+
+abbrev pub IsFound : Promise → Region → Choice → Type 0
+IsFound promise region choice = (choice.number ≡ region.number) × IsToldAs promise region choice.made choice.kept
+
+-- where accesses from two of these registers are promised to be apart
+abbrev pub IsFoundOf : List Reg → Region → Choice → Type 0
+IsFoundOf apart region choice = (promise : Promise) × IsPromiseOf apart promise × IsFound promise region choice
+
+-- a loop that nothing counts has its block's packets
+pub record IsUncounted (choice : Choice) : Type 0 where
+  pub none : choice.made ≡ None
+  pub told : choice.kept ≡ NoCounter
+
+-- so it is of a loop under a counter
+pub record IsCounted (apart : List Reg) (blocks : List Serial) (choice : Choice) : Type 0 where
+  pub block : Serial
+  pub at : slice_get blocks choice.number ≡ Some block
+  pub counter : Reg
+  pub counts : counter_of blocks choice.number ≡ Some counter
+  pub found : IsFoundOf apart (loop_alone choice.number block counter) choice
+
+-- what is found for a block of these that is a loop
+abbrev pub IsChosen : List Reg → List Serial → Choice → Type 0
+IsChosen apart blocks choice = IsUncounted choice ⊎ IsCounted apart blocks choice
+
+-- ---- what is told
+
+abbrev pub given_kept : Option Made → Kept → Kept
+given_kept None kept = kept
+given_kept (Some made) kept = NotChecked
+
+-- what became of a loop that was given up, or not
+abbrev pub told_kept : (given_up : Bool) → Choice → Kept
+told_kept true choice = given_kept choice.made choice.kept
+told_kept false choice = choice.kept
