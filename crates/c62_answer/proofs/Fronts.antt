@@ -18,12 +18,16 @@ use Rattle.c62_reach.proofs.Front.{lacks_all, taken_all}
 use Rattle.c62_answer.proofs.Flights.{flight_all, no_flight_all}
 use Rattle.c62_command.specs.CommandLine.{Adoption, Ask, FlightReport, Listing, ListingPicture, PacketReport}
 use Rattle.c62_command.specs.CommandLine.{PacketsPicture, Picture, Reaching, SerialReport, StandingReport, Verdicts}
-use Rattle.c62_command.specs.CommandLine.{LoopVerdicts}
+use Rattle.c62_command.specs.CommandLine.{LoopListing, LoopPicture, LoopReport, LoopVerdicts}
+use Rattle.c62_command.specs.declared.command.Packing.{Packing}
+use Rattle.c62_pipeline.specs.declared.written.Pipelining.{Pipelining}
+use Rattle.c62_read.specs.Block.{Serial}
+use Rattle.c62_answer.specs.Looped.{IsLooped, IsUnlooped}
 use Rattle.c62_command.specs.declared.command.Form.{Form}
 use Rattle.c62_command.specs.declared.command.Form.TheVariants.{Listed, Written}
 use Rattle.clap.specs.Words.{Text}
 use Rattle.c62_answer.specs.declared.outcome.Outcome.{Outcome}
-use Rattle.c62_answer.specs.declared.outcome.Outcome.TheVariants.{Done, Drained, NotSame, Breached}
+use Rattle.c62_answer.specs.declared.outcome.Outcome.TheVariants.{Done, Drained, NotSame, Breached, Looped}
 use Rattle.c62_answer.specs.Texts.{IsNoListing, IsNoPackets, IsNoProgram}
 use Rattle.c62_op.specs.declared.register.Reg.{Reg}
 use Rattle.c62_answer.specs.Check.{IsCheck, IsNoCheck}
@@ -118,6 +122,18 @@ loops_unchecked_all trips all text message read is =
     no_loop_check_all all (most_parted + 1) (omega arith) trips message
     (subst (λ (xs : List ℕ). IsNoLoopCheck trips xs message) read is)
 
+looped_all : (packing : Packing) (trips : List (Text × ℕ)) (apart : List Reg) (all text : List ℕ)
+    (program : List Serial) (written : Pipelining)
+    → text ≡ take (most_bytes + 1) all → IsLooped packing trips apart text program written
+    → IsLooped packing trips apart all program written
+looped_all packing trips apart all text program written read is = record {
+  says = sym (program_all all text read) ∙ is.says;
+  named = is.named;
+  own = is.own;
+  packed = is.packed;
+  is = is.is;
+}
+
 -- the answer to what was read is the answer to all
 pub answered : (ask : Ask) (outcome : Outcome) (all text answer : List ℕ) → text ≡ take (limit_of ask + 1) all
     → IsAnswer ask outcome text answer → IsAnswer ask outcome all answer
@@ -179,6 +195,31 @@ answered (LoopVerdicts trips apart) Done all text answer read is = loops_checked
     read is
 answered (LoopVerdicts trips apart) NotSame all text answer read is = loops_checked_all trips apart false all text
     answer read is
+answered (LoopListing verbose packing trips apart) (Looped told None) all text answer read is = record {
+  program = is.program;
+  written = is.written;
+  looped = looped_all packing trips apart all text is.program is.written read is.looped;
+  lines = is.lines;
+  listed = is.listed;
+}
+answered (LoopPicture packing trips apart) Done all text answer read is = record {
+  program = is.program;
+  written = is.written;
+  looped = looped_all packing trips apart all text is.program is.written read is.looped;
+  drawn = is.drawn;
+}
+answered (LoopReport verbose packing trips apart course settings) (Looped told has) all text answer read is = record {
+  program = is.program;
+  written = is.written;
+  looped = looped_all packing trips apart all text is.program is.written read is.looped;
+  lines = is.lines;
+  flying = is.flying;
+  first = is.first;
+  begins = is.begins;
+  outcome = is.outcome;
+  flown = is.flown;
+  ends = is.ends;
+}
 answered _ _ all text answer read is = absurd is
 
 no_program_all : (all text message : List ℕ) → text ≡ take (most_bytes + 1) all → IsNoProgram text message
@@ -195,6 +236,17 @@ no_listing_all all text message read is = record {
   refused = refuses_same text all is.fault (listed_all all text read) is.refused;
   told = is.told;
 }
+
+unlooped_all : (trips : List (Text × ℕ)) (all text message : List ℕ) → text ≡ take (most_bytes + 1) all
+    → IsUnlooped trips text message → IsUnlooped trips all message
+unlooped_all trips all text message read (inl none) = inl (no_program_all all text message read none)
+unlooped_all trips all text message read (inr is) = inr (record {
+  program = is.program;
+  says = sym (program_all all text read) ∙ is.says;
+  number = is.number;
+  first = is.first;
+  told = is.told;
+})
 
 refused_all : (ask : Ask) (all text message : List ℕ) → text ≡ take (limit_of ask + 1) all
     → IsRefusedText ask text message → IsRefusedText ask all message
@@ -215,6 +267,20 @@ refused_all (Reaching name ask) all text message read (inr is) = inr
     (is.0, taken_all name all text is.0 read is.1, is.2)
 refused_all (Verdicts form) all text message read is = unchecked_all form all text message read is
 refused_all (LoopVerdicts trips apart) all text message read is = loops_unchecked_all trips all text message read is
+refused_all (LoopListing verbose packing trips apart) all text message read is =
+    unlooped_all trips all text message read is
+refused_all (LoopPicture packing trips apart) all text message read is = unlooped_all trips all text message read is
+refused_all (LoopReport verbose packing trips apart course settings) all text message read (inl is) =
+    inl (unlooped_all trips all text message read is)
+refused_all (LoopReport verbose packing trips apart course settings) all text message read (inr is) = inr (record {
+  program = is.program;
+  written = is.written;
+  looped = looped_all packing trips apart all text is.program is.written read is.looped;
+  fault = is.fault;
+  known = is.known;
+  refused = is.refused;
+  told = is.told;
+})
 
 pub refused : (ask : Ask) (known : Option (List ℕ)) (text message : List ℕ)
     → IfSome known (λ all. text ≡ take (limit_of ask + 1) all) → IsRefusedText ask text message

@@ -14,6 +14,8 @@ pub mod FlyingPart
 pub mod Flights
 pub mod Reached
 pub mod Fronts
+mod Statuses
+mod Looping
 pub mod Runs
 pub mod WholeRuns
 pub mod Telling

@@ -17,10 +17,9 @@ use Rattle.clap.specs.Words.{Text}
 use Rattle.c62_answer.specs.declared.failure.Failure.{Failure}
 use Rattle.c62_answer.specs.declared.failure.Failure.TheVariants as failures
 use Rattle.c62_answer.specs.declared.outcome.Outcome.{Outcome}
-use Rattle.c62_answer.specs.declared.outcome.Outcome.TheVariants.{Done, Drained, NotSame, Breached}
-use Rattle.c62_answer.specs.declared.outcome.Breach.TheVariants as breach
 use Rattle.c62_answer.specs.declared.outcome.Reply.{Reply}
 use Rattle.c62_answer.proofs.Fronts.{answered, refused}
+use Rattle.c62_answer.proofs.Statuses.{neither, most_status, ends_otherwise}
 
 -- the answer to what was read, written
 pub answers : (ask : Ask) (known old new : Option (List ℕ)) (text : List ℕ) (reply : Reply)
@@ -115,32 +114,9 @@ pub record Reads (words : List Text) (old new : Option (List ℕ)) : Type 0 wher
   pub unread : asked words ≡ None → Keeps old new
   pub most : (ask : Ask) → asked words ≡ Some ask → TakesAtMost (limit_of ask + 1) old new
 
-neither : {P Q : Type 0} → P ⊎ Q → (P → ⊥) → (Q → ⊥) → ⊥
-neither (inl p) not_p not_q = not_p p
-neither (inr q) not_p not_q = not_q q
-
 some_none : {T : Type 0} (o : Option T) (P : T → Type 0) → IsSomeAnd o P → o ≡ None → ⊥
 some_none None P some none = some
 some_none (Some x) P some none = absurd cc
-
--- the statuses of a run that is done
-ends_with : (outcome : Outcome) → (status_done outcome ≡ 0) ⊎ (5 ≤ status_done outcome)
-ends_with Done = inl refl
-ends_with (Drained added) = inl refl
-ends_with NotSame = inr (omega arith)
-ends_with (Breached breach.Limit) = inr (omega arith)
-ends_with (Breached breach.Fault) = inr (omega arith)
-
-most_status : (outcome : Outcome) → status_done outcome ≤ 7
-most_status Done = omega arith
-most_status (Drained added) = omega arith
-most_status NotSame = omega arith
-most_status (Breached breach.Limit) = omega arith
-most_status (Breached breach.Fault) = omega arith
-
-ends_otherwise : (outcome : Outcome) (status : ℕ) → 0 < status → status < 5 → status_done outcome ≡ status → ⊥
-ends_otherwise outcome status more less ends = neither (ends_with outcome) (λ zero. omega (arith, zero, ends, more))
-    (λ five. omega (arith, five, ends, less))
 
 pub done : (Told : Telling) (words : List Text) (old new : Streams) (outcome : Outcome)
     → Reads words old.input new.input → TellsOutcome Told outcome old.errors new.errors

@@ -9,7 +9,7 @@ use Rattle.c62_answer.specs.Run.{IsRun, IsRunBy, IsRunOnBytes, Streams}
 use Rattle.c62_command.specs.CommandLine.{Ask, IsUnknown, asked}
 use Rattle.clap.specs.Words.{Text}
 use Rattle.c62_answer.specs.declared.outcome.Outcome.{Outcome}
-use Rattle.c62_answer.specs.declared.outcome.Outcome.TheVariants.{Done, Drained, NotSame, Breached}
+use Rattle.c62_answer.specs.declared.outcome.Outcome.TheVariants.{Done, Drained, NotSame, Breached, Looped}
 use Rattle.c62_answer.proofs.Telling.{whole_told}
 
 -- ---- what is told whole is told
@@ -26,6 +26,7 @@ module _ (Told Other : Telling) (weaker : (old new : Option (List ℕ)) (text : 
   outcome_weaker (Drained added) old new told = weaker old new (drained_message added) told
   outcome_weaker NotSame old new told = told
   outcome_weaker (Breached breach) old new told = told
+  outcome_weaker (Looped lines breach) old new told = weaker old new lines.items told
 
   asked_weaker : (words : List Text) (old new : Option (List ℕ)) → AsksNothing Told words old new
       → AsksNothing Other words old new
@@ -99,6 +100,7 @@ on_bytes words input rest output errors status run = record {
     told_in (Drained added) told = held errors (drained_message added) told
     told_in NotSame told = told
     told_in (Breached breach) told = told
+    told_in (Looped lines breach) told = held errors lines.items told
 
     ended_in : Ends Tells words (record { input = Some input; output = Some []; errors = Some [] })
         (record { input = Some rest; output = Some output; errors = Some errors }) status

@@ -6,6 +6,7 @@ pub mod Texts
 pub mod Parting
 pub mod Check
 pub mod LoopCheck
+pub mod Looped
 pub mod Run
 pub mod ReadBack
 pub mod OneText

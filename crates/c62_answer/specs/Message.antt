@@ -19,7 +19,7 @@ use Rattle.c62_op.specs.Name.{register_name}
 use Rattle.c62_adopt_late.specs.declared.late.Late.{Late}
 use Rattle.c62_answer.specs.declared.outcome.Added.{Added}
 use Rattle.c62_answer.specs.declared.outcome.Outcome.{Outcome}
-use Rattle.c62_answer.specs.declared.outcome.Outcome.TheVariants.{Drained}
+use Rattle.c62_answer.specs.declared.outcome.Outcome.TheVariants.{Drained, Looped}
 
 -- ---- the lines
 
@@ -124,12 +124,14 @@ pub record TellsOf (Told : Telling) (IsText : List ℕ → Type 0) (old new : Op
   pub is : IsText text
   pub told : Told old new text
 
--- Of a text that was drained it was told what was added. Else nothing was.
+-- Of a text that was drained it was told what was added, and of pipelined loops what is to be told of these. Else nothing was.
 abbrev pub TellsOutcome : Telling → Outcome → Option (List ℕ) → Option (List ℕ) → Type 0
 TellsOutcome Told (Drained added) old new = Told old new (drained_message added)
+TellsOutcome Told (Looped told breach) old new = Told old new told.items
 TellsOutcome Told _ old new = Keeps old new
 
 -- so it was told on a stream that held nothing
 abbrev pub IsToldOf : Outcome → List ℕ → Type 0
 IsToldOf (Drained added) errors = IsFront errors (drained_message added)
+IsToldOf (Looped told breach) errors = IsFront errors told.items
 IsToldOf _ errors = errors ≡ []

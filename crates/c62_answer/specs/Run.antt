@@ -7,7 +7,8 @@ use Rattle.c62_answer.specs.declared.failure.Failure.{Failure}
 use Rattle.c62_answer.specs.declared.failure.Failure.TheVariants.{Unread, Unlisted, Unadopted, Unflown, TextPart, ListingPart, PacketsPart, RowsPart, NoListing, NoLoop, Words, Setting, Promise, Memory, Input, Output}
 use Rattle.c62_answer.specs.declared.outcome.Added.{Added}
 use Rattle.c62_answer.specs.declared.outcome.Outcome.{Outcome}
-use Rattle.c62_answer.specs.declared.outcome.Outcome.TheVariants.{Done, Drained, NotSame, Breached}
+use Rattle.c62_answer.specs.declared.outcome.Outcome.TheVariants.{Done, Drained, NotSame, Breached, Looped}
+use Rattle.c62_answer.specs.declared.outcome.Breach.{Breach}
 use Rattle.c62_answer.specs.declared.outcome.Breach.TheVariants as breach
 use Rattle.c62_answer.specs.declared.outcome.Reply.{Reply}
 use Rattle.c62_command.specs.declared.command.CommandError.{CommandError}
@@ -66,11 +67,14 @@ use Rattle.c62_profile.specs.declared.tally.Tally.{Tally}
 use Rattle.c62_profile.specs.Visits.{CountsPackets, CountsProgram}
 use Rattle.c62_profile.specs.Table.{packet_table, serial_table}
 use Rattle.c62_profile.specs.Flights.{flight_table}
-use Rattle.c62_command.specs.CommandLine.{Ask, Listing, Picture, ListingPicture, PacketsPicture, SerialReport, PacketReport, StandingReport, FlightReport, Adoption, Reaching, Verdicts, LoopVerdicts, IsRefusal, IsUnknown, HasBadSetting, HasBadPromise, asked}
+use Rattle.c62_command.specs.CommandLine.{Ask, Listing, Picture, ListingPicture, PacketsPicture, SerialReport, PacketReport, StandingReport, FlightReport, Adoption, Reaching, Verdicts, LoopVerdicts, LoopListing, LoopPicture, LoopReport, IsRefusal, IsUnknown, HasBadSetting, HasBadPromise, asked}
 use Rattle.c62_answer.specs.Message.{adopt_message, fault_message, list_message, rows_message, no_listing, no_loop, of_listing, of_text, promise_message, setting_message, IsFront, IsToldOf, Telling, Tells, TellsOf, TellsOutcome}
 use Rattle.c62_answer.specs.Texts.{SaysProgram, SaysPackets, SaysNoPackets, IsNoProgram, IsNoListing, IsNoPackets, IsNoFlight, IsUnreached}
 use Rattle.c62_answer.specs.Check.{IsCheck, IsNoCheck}
 use Rattle.c62_answer.specs.LoopCheck.{IsFlying, IsLoopCheck, IsNoLoopCheck}
+use Rattle.c62_answer.specs.Looped.{IsLooped, IsLoopListing, IsLoopPicture, IsUnlooped, IsUnread, told_lines}
+use Rattle.c62_op.specs.declared.register.Reg.{Reg}
+use Rattle.c62_pipeline.specs.declared.written.Pipelining.{Pipelining}
 use Rattle.c62_printing.specs.Printing.{prints}
 use Rattle.c62_printing.specs.Dumping.{dumps}
 
@@ -99,6 +103,15 @@ status_done (Drained _) = 0
 status_done NotSame = 5
 status_done (Breached breach.Limit) = 6
 status_done (Breached breach.Fault) = 7
+status_done (Looped told None) = 0
+status_done (Looped told (Some breach.Limit)) = 6
+status_done (Looped told (Some breach.Fault)) = 7
+
+-- what a strict run has that it doesn't take
+abbrev pub breach_of : Outcome → Option Breach
+breach_of (Breached breach) = Some breach
+breach_of (Looped told breach) = breach
+breach_of _ = None
 
 -- how a strict run ends that ended by its limit or not, and in which these lines faulted
 abbrev pub outcome_strict : (limited : Bool) → (faults : List ℕ) → Outcome
@@ -319,6 +332,20 @@ pub record IsFlightReport (course : FlightCourse) (from : Option Text) (settings
   pub named : IsText (code_in (code_read text)) flying labels
   pub flown : IsFlown flying labels first settings course outcome answer
 
+-- Packets are written of the text whose loops are pipelined where so much is promised, and this is the report of their run with everything in
+-- flight; and this is told of the loops, and the run has this that a strict one doesn't take.
+pub record IsLoopReport (verbose : Bool) (packing : Packing) (trips : List (Text × ℕ)) (apart : List Reg) (course : FlightCourse) (settings : List Given) (told : List ℕ) (has : Option Breach) (text answer : List ℕ) : Type 0 where
+  pub program : List Serial
+  pub written : Pipelining
+  pub looped : IsLooped packing trips apart text program written
+  pub lines : told ≡ told_lines verbose program written
+  pub flying : FlightText
+  pub first : ℕ
+  pub begins : IsTextFrom written.text.items None flying first
+  pub outcome : Outcome
+  pub flown : IsFlown flying begins.labels first settings course outcome answer
+  pub ends : has ≡ breach_of outcome
+
 -- the text is adopted as packets, with so many cycles added to drain it, and this is their listing
 pub record IsAdoptedText (drain : Bool) (added : ℕ) (text answer : List ℕ) : Type 0 where
   pub packets : List Packed
@@ -361,6 +388,10 @@ IsAnswer (Verdicts form) Done text answer = IsCheck form text true answer
 IsAnswer (Verdicts form) NotSame text answer = IsCheck form text false answer
 IsAnswer (LoopVerdicts trips apart) Done text answer = IsLoopCheck trips apart text true answer
 IsAnswer (LoopVerdicts trips apart) NotSame text answer = IsLoopCheck trips apart text false answer
+IsAnswer (LoopListing verbose packing trips apart) (Looped told None) text answer = IsLoopListing verbose packing trips apart told.items text answer
+IsAnswer (LoopPicture packing trips apart) Done text answer = IsLoopPicture packing trips apart text answer
+IsAnswer (LoopReport verbose packing trips apart course settings) (Looped told has) text answer =
+    IsLoopReport verbose packing trips apart course settings told.items has text answer
 IsAnswer _ _ text answer = ⊥
 
 -- ---- refusals
@@ -375,6 +406,10 @@ IsRefusedText (Adoption drain) text message = IsNoPackets drain text message
 IsRefusedText (Reaching name ask) text message = IsUnreached name text message ⊎ ((taken : List ℕ) × IsTaken name text taken × IsRefusedText ask taken message)
 IsRefusedText (Verdicts form) text message = IsNoCheck form text message
 IsRefusedText (LoopVerdicts trips apart) text message = IsNoLoopCheck trips text message
+IsRefusedText (LoopListing verbose packing trips apart) text message = IsUnlooped trips text message
+IsRefusedText (LoopPicture packing trips apart) text message = IsUnlooped trips text message
+IsRefusedText (LoopReport verbose packing trips apart course settings) text message =
+    IsUnlooped trips text message ⊎ IsUnread packing trips apart text message
 IsRefusedText _ text message = IsNoProgram text message
 
 -- ---- streams
@@ -464,6 +499,13 @@ GivesRowsPart text (Err (PacketsPart fault)) = IsNoFlight None text (adopt_messa
 GivesRowsPart text (Err (RowsPart fault)) = IsNoFlight None text (rows_message fault)
 GivesRowsPart text (Err Memory) = Unit {0}
 GivesRowsPart text (Err _) = ⊥
+
+-- a text says no program of which these labels are loops', unless memory ran out
+abbrev pub RefusesLooped : List (Text × ℕ) → List ℕ → Failure → Type 0
+RefusesLooped trips text (Unread fault) = IsUnlooped trips text (fault_message fault.line fault.cause)
+RefusesLooped trips text (NoLoop number) = IsUnlooped trips text (no_loop number)
+RefusesLooped trips text Memory = Unit {0}
+RefusesLooped trips text _ = ⊥
 
 -- nothing is taken of a text from the label of this name on, as no line has it, unless memory ran out
 abbrev pub TakesNothing : (name text : List ℕ) → Failure → Type 0

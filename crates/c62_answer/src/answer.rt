@@ -16,6 +16,7 @@ use crate::failure::Failure;
 use crate::outcome::{Added, Outcome, Reply};
 use crate::packets::packets_in;
 use crate::parting;
+use crate::pipelining::{loop_listing, loop_picture, loop_report};
 use crate::reaching::{adopted_as, exec_as};
 use crate::run::{packet_run, serial_run};
 use crate::schedule::{packets_by_turns, packets_by_workers, shown_by_turns, shown_by_workers};
@@ -32,7 +33,7 @@ use std::sync::Wait;
 use std::thread::Threads;
 
 /// The program that a text says.
-fn program_of(alloc: Global, text: &[u8]) -> Result<Program, Failure>
+pub(crate) fn program_of(alloc: Global, text: &[u8]) -> Result<Program, Failure>
     ensures { GivesProgram text.now result }
 {
     match read_program(alloc, text) {
@@ -234,6 +235,9 @@ pub fn answer<H: AllocGlobal + Threads + Wait + Sync>(
         Request::Adopt(adopting) => adopted_as(rt.alloc(), text, adopting),
         Request::Check(form) => verdicts(rt.alloc(), *form, text),
         Request::CheckLoops(promises) => loop_verdicts(rt.alloc(), promises, text),
+        Request::PackLoops(looping) => loop_listing(rt, text, looping),
+        Request::ShowLoops(looping) => loop_picture(rt, text, looping),
+        Request::RunLoops(looping, flight) => loop_report(rt, text, looping, flight),
     }
 }
 
@@ -260,6 +264,9 @@ pub fn limit_of(request: &Request) -> usize
         Request::ShowListing(_) => c62_listing_reader::MOST_BYTES,
         Request::Exec(_) | Request::Adopt(_) | Request::ShowPackets(_) => c62_adopt_cut::MOST_BYTES,
         Request::Pack(_) | Request::Show(_) | Request::Run(_, _) | Request::Serial(_) => {
+            c62_read::MOST_BYTES
+        }
+        Request::PackLoops(_) | Request::ShowLoops(_) | Request::RunLoops(_, _) => {
             c62_read::MOST_BYTES
         }
     }

@@ -84,7 +84,7 @@ fn flown_told(
 }
 
 /// The report of such a run from zeros with these settings, with the table of its rows below it where one is asked for.
-fn flown(
+pub(crate) fn flown(
     alloc: Global,
     begun: &Begun,
     settings: &[Setting],

@@ -13,6 +13,7 @@ mod message;
 mod outcome;
 mod packets;
 mod parting;
+mod pipelining;
 mod reaching;
 mod run;
 mod schedule;

@@ -227,16 +227,17 @@ fn tell_added<E: Write>(errors: &mut E, added: Added) -> Result<(), Refused>
     }
 }
 
-/// Tells of a text that was drained what was added, and else nothing.
+/// Tells of a text that was drained what was added, and of pipelined loops what is to be told of these; else nothing.
 ///
 /// # Errors
 ///
 /// Where the stream takes no more. It has a front of the line then.
-pub fn tell_outcome<E: Write>(errors: &mut E, outcome: Outcome) -> Result<(), Refused>
-    ensures { TellsOutcome (told_of result) outcome (E.contents errors.old) (E.contents errors.new) }
+pub fn tell_outcome<E: Write>(errors: &mut E, outcome: &Outcome) -> Result<(), Refused>
+    ensures { TellsOutcome (told_of result) outcome.now (E.contents errors.old) (E.contents errors.new) }
 {
     match outcome {
         Outcome::Done | Outcome::NotSame | Outcome::Breached(_) => Ok(()),
-        Outcome::Drained(added) => tell_added(errors, added),
+        Outcome::Drained(added) => tell_added(errors, *added),
+        Outcome::Looped(told, _) => write_whole(errors, told),
     }
 }

@@ -1,7 +1,7 @@
 //! What is written, and how a run ends that is done.
 
 ghost use Rattle.std.specs.Prelude.{◌≡◌};
-ghost use Rattle.c62_answer.specs.Run.{status_done, outcome_adopted, outcome_of, outcome_run};
+ghost use Rattle.c62_answer.specs.Run.{breach_of, status_done, outcome_adopted, outcome_of, outcome_run};
 
 /// What a strict run doesn't take.
 #[derive(Clone, Copy, PartialEq, Eq, Debug)]
@@ -23,7 +23,7 @@ pub struct Added {
 }
 
 /// How a run ends that is done.
-#[derive(Clone, Copy, PartialEq, Eq, Debug)]
+#[derive(Debug, Drop)]
 pub enum Outcome {
     /// The answer is written; where that is what a check tells, all is the same.
     Done,
@@ -33,6 +33,8 @@ pub enum Outcome {
     NotSame,
     /// The report of a strict run is written, and it has this.
     Breached(Breach),
+    /// What is asked of packets with pipelined loops is written: this is to be told of the loops, and a strict run has this.
+    Looped(Vec<u8>, Option<Breach>),
 }
 
 /// What is to be written, and how the run ends then.
@@ -82,15 +84,26 @@ impl Outcome {
         }
     }
 
-    /// The status that the program ends with.
-    pub fn status(self) -> u8
-        ensures { result ≡ status_done self }
+    /// What a strict run has that it doesn't take.
+    pub fn breach(&self) -> Option<Breach>
+        ensures { result ≡ breach_of self.now }
     {
         match self {
-            Outcome::Done | Outcome::Drained(_) => 0,
+            Outcome::Breached(breach) => Some(*breach),
+            Outcome::Looped(_, breach) => *breach,
+            Outcome::Done | Outcome::Drained(_) | Outcome::NotSame => None,
+        }
+    }
+
+    /// The status that the program ends with.
+    pub fn status(&self) -> u8
+        ensures { result ≡ status_done self.now }
+    {
+        match self {
+            Outcome::Done | Outcome::Drained(_) | Outcome::Looped(_, None) => 0,
             Outcome::NotSame => 5,
-            Outcome::Breached(Breach::Limit) => 6,
-            Outcome::Breached(Breach::Fault) => 7,
+            Outcome::Breached(Breach::Limit) | Outcome::Looped(_, Some(Breach::Limit)) => 6,
+            Outcome::Breached(Breach::Fault) | Outcome::Looped(_, Some(Breach::Fault)) => 7,
         }
     }
 }

@@ -92,7 +92,7 @@ fn run_telling<H: AllocGlobal + Threads + Wait + Sync, S: AsStr, R: Read, W: Wri
 {
     match run(rt, words, reader, output) {
         Ok(outcome) => Ended {
-            told: tell_outcome(errors, outcome),
+            told: tell_outcome(errors, &outcome),
             status: outcome.status(),
         },
         Err(failure) => Ended {

@@ -1,6 +1,10 @@
 -- What words ask for.
-use Rattle.std.proofs.Common.{◌≡◌, ◌≢◌, ◌∙◌, ℕ, List, [], ◌∷◌, length, map, Option, Some, None, refl, ap, arith}
-use Rattle.clap.specs.Words.{Kinds, Row, Text, fault_of, subcommand_of}
+use Rattle.std.proofs.Common.{◌≡◌, ◌≢◌, ◌∙◌, ℕ, Bool, true, false, List, [], ◌∷◌, length, map, Option, Some, None}
+use Rattle.std.proofs.Common.{refl, ap, arith}
+use Rattle.std.specs.Prelude.{codes, if◌then◌else◌}
+use Rattle.std.specs.Str.{bytes_eq}
+use Rattle.c62_op.specs.declared.register.Reg.{Reg}
+use Rattle.clap.specs.Words.{Kinds, Row, Text, first_of, fault_of, subcommand_of}
 use Rattle.c62_command.specs.declared.promise.BadPromise.{BadPromise}
 use Rattle.c62_command.specs.declared.promise.BadPromise.TheVariants as no_promise
 use Rattle.c62_command.specs.declared.command.CommandError.{CommandError}
@@ -8,7 +12,9 @@ use Rattle.c62_command.specs.declared.command.CommandError.TheVariants as refuse
 use Rattle.c62_command.specs.Promises.{IsBadPromise, all_trips, apart_of, trips_in, trips_words}
 use Rattle.c62_command.proofs.PromiseLemmas.{none_said}
 use Rattle.c62_command.specs.CommandLine.{Ask, Listing, HasBadPromise, HasBadPromiseIn, HasBadSetting, HasFirstBad}
-use Rattle.c62_command.specs.CommandLine.{IsRefusal, IsRefusalIn, IsUnknown, loops_asked, ask_in, asked, plain_packing}
+use Rattle.c62_command.specs.CommandLine.{IsRefusal, IsRefusalIn, IsUnknown, Adoption, loops_asked, ask_in, asked}
+use Rattle.c62_command.specs.CommandLine.{check_asked, is_set, plain_asked, plain_packing}
+use Rattle.c62_command.specs.CommandLine.{promised_asked, reaching}
 use Rattle.c62_command.specs.CommandLine.{setting_words, tool_app, unless_fault}
 use Rattle.c62_command.specs.Settings.{IsFirstBad, settings_of}
 use Rattle.c62_command.proofs.SettingLemmas.{none_of}
@@ -43,7 +49,18 @@ no_settings rows k bad = ap settings_of bad.whole ∙ none_of bad.before bad.tex
 
 nothing_in : (found : Option (Text × List Row)) (k : ℕ) → HasFirstBad found k → ask_in found ≡ None
 nothing_in None k e = absurd e
-nothing_in (Some (name, rows)) k e = rw (e.0.0, e.0.1, e.0.2, e.0.3, no_settings rows k e.1) refl
+nothing_in (Some (name, rows)) k e =
+    rw (e.0.3, e.0.2) (go (is_set (codes "pipeline") rows) (all_trips (trips_words rows)) (apart_of rows))
+  where
+    plain : plain_asked name rows ≡ None
+    plain = rw (e.0.0, e.0.1, no_settings rows k e.1) refl
+
+    go : (pipeline : Bool) (trips : Option (List (Text × ℕ))) (apart : Option (List Reg))
+        → (if pipeline then promised_asked name rows trips apart else plain_asked name rows) ≡ None
+    go false trips apart = plain
+    go true None apart = refl
+    go true (Some trips) None = refl
+    go true (Some trips) (Some apart) = rw (e.0.0, e.0.1, no_settings rows k e.1) refl
 
 no_promises : (rows : List Row) (bad : BadPromise) → IsBadPromise rows bad
     → loops_asked (all_trips (trips_words rows)) (apart_of rows) ≡ None
@@ -57,9 +74,40 @@ no_promises rows no_promise.Apart bad = rw (bad.0) (nothing (all_trips (trips_wo
     nothing None = refl
     nothing (Some trips) = refl
 
+nothing_promised : (name : Text) (rows : List Row) (bad : BadPromise) → IsBadPromise rows bad
+    → promised_asked name rows (all_trips (trips_words rows)) (apart_of rows) ≡ None
+nothing_promised name rows (no_promise.Trips k) bad =
+    let none : all_trips (trips_words rows) ≡ None = ap all_trips bad.whole
+    ∙ none_said trips_in bad.before bad.text bad.after bad.bad in
+    rw none refl
+nothing_promised name rows no_promise.Apart bad = rw (bad.0) (nothing (all_trips (trips_words rows)))
+  where
+    nothing : (trips : Option (List (Text × ℕ))) → promised_asked name rows trips None ≡ None
+    nothing None = refl
+    nothing (Some trips) = refl
+
 no_loops_in : (found : Option (Text × List Row)) (bad : BadPromise) → HasBadPromiseIn found bad → ask_in found ≡ None
 no_loops_in None bad e = absurd e
-no_loops_in (Some (name, rows)) bad e = rw (e.pack, e.show, e.adopt, e.check, e.loops, no_promises rows bad e.why) refl
+no_loops_in (Some (name, rows)) bad e = go (bytes_eq name (codes "check")) (bytes_eq name (codes "adopt")) e.takes
+  where
+    adopting : Option Ask
+    adopting = Some (reaching (first_of (codes "from") rows) (Adoption (is_set (codes "drain") rows)))
+
+    loops : Bool
+    loops = is_set (codes "loops") rows
+
+    pipeline : Bool
+    pipeline = is_set (codes "pipeline") rows
+
+    promised : Option Ask
+    promised = promised_asked name rows (all_trips (trips_words rows)) (apart_of rows)
+
+    go : (check adopt : Bool) → (if check then loops else (if adopt then false else pipeline)) ≡ true
+        → (if check then check_asked rows
+        else (if adopt then adopting else (if pipeline then promised else plain_asked name rows))) ≡ None
+    go true adopt is = rw (is, no_promises rows bad e.why) refl
+    go false true is = absurd cc
+    go false false is = rw (is, nothing_promised name rows bad e.why) refl
 
 pub asked-bad-promise : (words : List Text) (bad : BadPromise) → HasBadPromise words bad → asked words ≡ None
 unfolding asked

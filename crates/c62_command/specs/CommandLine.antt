@@ -25,7 +25,7 @@ use Rattle.c62_command.specs.declared.command.Form.TheVariants.{Listed, Written}
 use Rattle.c62_command.specs.declared.command.CommandError.{CommandError}
 use Rattle.c62_command.specs.declared.command.CommandError.TheVariants as refused
 use Rattle.c62_command.specs.declared.command.Request.{Request}
-use Rattle.c62_command.specs.declared.command.Request.TheVariants.{Pack, Show, ShowListing, ShowPackets, Run, Serial, Sim, Exec, Adopt, Check, CheckLoops}
+use Rattle.c62_command.specs.declared.command.Request.TheVariants.{Pack, Show, ShowListing, ShowPackets, Run, Serial, Sim, Exec, Adopt, Check, CheckLoops, PackLoops, ShowLoops, RunLoops}
 use Rattle.c62_command.specs.Settings.{settings_of, IsFirstBad}
 use Rattle.c62_command.specs.Promises.{IsBadPromise, all_trips, apart_of, trips_of, trips_words}
 use Rattle.c62_command.specs.declared.promise.BadPromise.{BadPromise}
@@ -121,9 +121,38 @@ with_reach app = with_rule (with_rule app from_rule) alone_rule
 abbrev pub with_flight : App → App
 with_flight app = with_report (with_reach (with_rule app cycles_rule))
 
--- `pack [--turns] [--eject N] [--shortest] [--search N]`
+-- `[--trips L=N]..`
+abbrev pub trips_rule : Rule
+trips_rule = record (new_rule (codes "trips")) { long = Some (codes "trips"); value_names = 1; action = Some Append }
+
+-- `--apart REG,REG,..`
+abbrev pub apart_rule : Rule
+apart_rule = record (new_rule (codes "apart")) { long = Some (codes "apart"); value_names = 1 }
+
+-- what may be promised of loops
+abbrev pub with_promises : App → App
+with_promises app = with_rule (with_rule app trips_rule) apart_rule
+
+-- `--pipeline`
+abbrev pub pipeline_rule : Rule
+pipeline_rule = record (new_rule (codes "pipeline")) { long = Some (codes "pipeline"); action = Some SetTrue }
+
+-- `--verbose`
+abbrev pub verbose_rule : Rule
+verbose_rule = record (new_rule (codes "verbose")) { long = Some (codes "verbose"); action = Some SetTrue }
+
+abbrev pub with_pipeline : App → App
+with_pipeline app = with_promises (with_rule app pipeline_rule)
+
+abbrev pub with_told_pipeline : App → App
+with_told_pipeline app = with_rule (with_pipeline app) verbose_rule
+
+abbrev pub with_pipelined_run : App → App
+with_pipelined_run app = with_rule (with_told_pipeline app) cycles_rule
+
+-- `pack [--turns] [--eject N] [--shortest] [--search N] [--pipeline] [--trips L=N].. [--apart REG,REG,..] [--verbose]`
 abbrev pub pack_app : App
-pack_app = with_packing (new_app (codes "pack"))
+pack_app = with_told_pipeline (with_packing (new_app (codes "pack")))
 
 abbrev pub with_forms : App → App
 with_forms app = with_rule (with_rule app listing_rule) packets_rule
@@ -131,13 +160,15 @@ with_forms app = with_rule (with_rule app listing_rule) packets_rule
 abbrev pub with_details : App → App
 with_details app = with_rule (with_rule (with_rule app why_rule) registers_rule) summary_rule
 
--- `show [--turns] [--eject N] [--shortest] [--search N] [--listing] [--packets] [--why] [--registers] [--summary]`
+-- `show [--turns] [--eject N] [--shortest] [--search N] [--pipeline] [--trips L=N].. [--apart REG,REG,..] [--listing] [--packets] [--why]
+-- [--registers] [--summary]`
 abbrev pub show_app : App
-show_app = with_details (with_forms (with_packing (new_app (codes "show"))))
+show_app = with_details (with_forms (with_pipeline (with_packing (new_app (codes "show")))))
 
--- `run [--turns] [--eject N] [--shortest] [--search N] [--blocks N] [--profile] [--strict] [SETTING]..`
+-- `run [--turns] [--eject N] [--shortest] [--search N] [--pipeline] [--trips L=N].. [--apart REG,REG,..] [--verbose] [--cycles N] [--blocks N]
+-- [--profile] [--strict] [SETTING]..`
 abbrev pub run_app : App
-run_app = with_start (with_packing (new_app (codes "run")))
+run_app = with_start (with_pipelined_run (with_packing (new_app (codes "run"))))
 
 -- `serial [--blocks N] [--profile] [--strict] [SETTING]..`
 abbrev pub serial_app : App
@@ -159,16 +190,8 @@ adopt_app = with_rule (with_rule (new_app (codes "adopt")) from_rule) drain_rule
 abbrev pub loops_rule : Rule
 loops_rule = record (new_rule (codes "loops")) { long = Some (codes "loops"); action = Some SetTrue }
 
--- `[--trips L=N]..`
-abbrev pub trips_rule : Rule
-trips_rule = record (new_rule (codes "trips")) { long = Some (codes "trips"); value_names = 1; action = Some Append }
-
--- `--apart REG,REG,..`
-abbrev pub apart_rule : Rule
-apart_rule = record (new_rule (codes "apart")) { long = Some (codes "apart"); value_names = 1 }
-
 abbrev pub with_loops : App → App
-with_loops app = with_rule (with_rule (with_rule app loops_rule) trips_rule) apart_rule
+with_loops app = with_promises (with_rule app loops_rule)
 
 -- `check [--packets] [--loops] [--trips L=N].. [--apart REG,REG,..]`
 abbrev pub check_app : App
@@ -222,6 +245,12 @@ pub data Ask : Type 0 where
   -- what packets are that pipeline the loops of a serial text, where these labels' loops are entered with at least so many trips, and
   -- accesses from two of these registers never touch one byte in two iterations
   LoopVerdicts : (trips : List (Text × ℕ)) → (apart : List Reg) → Ask
+  -- the packets of a text, packed so, with its loops pipelined where as much is promised of these; and what became of each loop
+  LoopListing : (verbose : Bool) → Packing → (trips : List (Text × ℕ)) → (apart : List Reg) → Ask
+  -- the picture of the loops of such packets
+  LoopPicture : Packing → (trips : List (Text × ℕ)) → (apart : List Reg) → Ask
+  -- the report of a run of such packets on this course, from a state with these settings; and what became of each loop
+  LoopReport : (verbose : Bool) → Packing → (trips : List (Text × ℕ)) → (apart : List Reg) → FlightCourse → List Setting → Ask
 
 -- where a label is named, what is asked of that which is taken from there on
 abbrev pub reaching : Option Text → Ask → Ask
@@ -244,6 +273,11 @@ ask_of (Exec start) = flight_asked start.alone start.course (option_map (λ name
 ask_of (Adopt adopting) = reaching (option_map (λ name. name.items) adopting.from) (Adoption adopting.drain)
 ask_of (Check form) = Verdicts form
 ask_of (CheckLoops promises) = LoopVerdicts (map trips_of promises.trips.items) promises.apart.items
+ask_of (PackLoops looping) = LoopListing looping.verbose looping.packing (map trips_of looping.promises.trips.items) looping.promises.apart.items
+ask_of (ShowLoops looping) = LoopPicture looping.packing (map trips_of looping.promises.trips.items) looping.promises.apart.items
+ask_of (RunLoops looping flight) =
+    LoopReport looping.verbose looping.packing (map trips_of looping.promises.trips.items) looping.promises.apart.items flight.course
+    flight.settings.items
 
 -- a flag was set
 abbrev pub is_set : Text → List Row → Bool
@@ -351,15 +385,32 @@ check_asked rows =
     if is_set (codes "loops") rows then loops_asked (all_trips (trips_words rows)) (apart_of rows)
     else Some (Verdicts (form_of rows))
 
+-- which packets with pipelined loops are asked for, their picture or the report of their run, where so much is promised
+abbrev pub pipelined_asked : Text → List Row → (trips : List (Text × ℕ)) → (apart : List Reg) → Option Ask
+pipelined_asked name rows trips apart =
+    if bytes_eq name (codes "pack") then Some (LoopListing (is_set (codes "verbose") rows) (packing_of rows) trips apart)
+    else (if bytes_eq name (codes "show") then Some (LoopPicture (packing_of rows) trips apart)
+    else option_map (LoopReport (is_set (codes "verbose") rows) (packing_of rows) trips apart (flight_course_of rows)) (settings_of (setting_words rows)))
+
+-- the same where the promises are some
+abbrev pub promised_asked : Text → List Row → Option (List (Text × ℕ)) → Option (List Reg) → Option Ask
+promised_asked name rows (Some trips) (Some apart) = pipelined_asked name rows trips apart
+promised_asked name rows _ _ = None
+
+-- what a subcommand asks for whose loops aren't pipelined
+abbrev pub plain_asked : Text → List Row → Option Ask
+plain_asked name rows =
+    if bytes_eq name (codes "pack") then Some (Listing (packing_of rows))
+    else (if bytes_eq name (codes "show") then Some (show_asked rows) else option_map (report_asked name rows) (settings_of (setting_words rows)))
+
 -- what the subcommand's name and what was found for its arguments ask for, where the settings and promises are good
 abbrev pub ask_in : Option (Text × List Row) → Option Ask
 ask_in None = Some (Listing plain_packing)
 ask_in (Some (name, rows)) =
-    if bytes_eq name (codes "pack") then Some (Listing (packing_of rows))
-    else (if bytes_eq name (codes "show") then Some (show_asked rows)
+    if bytes_eq name (codes "check") then check_asked rows
     else (if bytes_eq name (codes "adopt") then Some (reaching (first_of (codes "from") rows) (Adoption (is_set (codes "drain") rows)))
-    else (if bytes_eq name (codes "check") then check_asked rows
-    else option_map (report_asked name rows) (settings_of (setting_words rows)))))
+    else (if is_set (codes "pipeline") rows then promised_asked name rows (all_trips (trips_words rows)) (apart_of rows)
+    else plain_asked name rows))
 
 abbrev pub unless_fault : Kinds → Option Ask → Option Ask
 unless_fault [] ask = ask
@@ -390,13 +441,15 @@ IsBadIn found error = (k : ℕ) → error ≡ Bad k → HasFirstBad found k
 abbrev pub HasBadSetting : List Text → ℕ → Type 0
 HasBadSetting words k = (0 < length words) × (fault_of tool_app words ≡ []) × HasFirstBad (subcommand_of tool_app words) k
 
--- the subcommand is a check of loops, and one of its promises is bad
+-- the subcommand is a check of loops, or pipelines them
+abbrev pub takes_promises : Text → List Row → Bool
+takes_promises name rows =
+    if bytes_eq name (codes "check") then is_set (codes "loops") rows
+    else (if bytes_eq name (codes "adopt") then false else is_set (codes "pipeline") rows)
+
+-- so it is, and one of its promises is bad
 pub record HasBadPromiseAmong (name : Text) (rows : List Row) (bad : BadPromise) : Type 0 where
-  pub pack : bytes_eq name (codes "pack") ≡ false
-  pub show : bytes_eq name (codes "show") ≡ false
-  pub adopt : bytes_eq name (codes "adopt") ≡ false
-  pub check : bytes_eq name (codes "check") ≡ true
-  pub loops : is_set (codes "loops") rows ≡ true
+  pub takes : takes_promises name rows ≡ true
   pub why : IsBadPromise rows bad
 
 abbrev pub HasBadPromiseIn : Option (Text × List Row) → BadPromise → Type 0

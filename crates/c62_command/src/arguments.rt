@@ -2,9 +2,9 @@
 
 ghost use Rattle.std.specs.Prelude.{◌≡◌, IfOk, false};
 ghost use Rattle.clap.specs.Words.{app_of, rule_of};
-ghost use Rattle.c62_command.specs.CommandLine.{turns_rule, eject_rule, blocks_rule, settings_rule, cycles_rule, from_rule, alone_rule, drain_rule, why_rule, registers_rule, listing_rule, packets_rule, with_forms, pack_app, show_app, run_app, serial_app, sim_app, exec_app, adopt_app, check_app, bare_app, listing_app, packing_app, running_app, tool_app, with_packing, with_start, IsLocal, profile_rule, strict_rule, with_reach, with_flight, summary_rule, with_details, shortest_rule, search_rule, with_report};
+ghost use Rattle.c62_command.specs.CommandLine.{turns_rule, eject_rule, blocks_rule, settings_rule, cycles_rule, from_rule, alone_rule, drain_rule, why_rule, registers_rule, listing_rule, packets_rule, with_forms, pack_app, show_app, run_app, serial_app, sim_app, exec_app, adopt_app, check_app, bare_app, listing_app, packing_app, running_app, tool_app, with_packing, with_start, IsLocal, profile_rule, strict_rule, with_reach, with_flight, summary_rule, with_details, shortest_rule, search_rule, verbose_rule, with_pipelined_run, with_told_pipeline, with_report};
 
-use crate::checking::with_loops;
+use crate::checking::{with_loops, with_pipeline};
 use clap::{Arg, ArgAction, Command, value_parser};
 use std::alloc::{AllocError, Global};
 
@@ -74,6 +74,16 @@ fn blocks_option<'a>(alloc: Global) -> Arg<'a>
         .value_name("N")
         .value_parser(value_parser!(u32).range(1..=1_000_000))
         .help("Runs at most N blocks, 1 to 1000000; 1000 where none is given")
+}
+
+fn verbose_flag<'a>(alloc: Global) -> Arg<'a>
+    ensures rule { rule_of result ≡ verbose_rule }
+    ensures local { result.global ≡ false }
+{
+    Arg::new(alloc, "verbose")
+        .long("verbose")
+        .action(ArgAction::SetTrue)
+        .help("With --pipeline: tells of each loop how it is pipelined, or why it isn't")
 }
 
 fn cycles_option<'a>(alloc: Global) -> Arg<'a>
@@ -244,6 +254,22 @@ fn with_report<'a>(alloc: Global, command: Command<'a>) -> Result<Command<'a>, A
         .arg(settings_words(alloc))
 }
 
+/// The command with whether loops are pipelined, what may be promised of them, and whether it is told what became of them.
+fn with_told_pipeline<'a>(alloc: Global, command: Command<'a>) -> Result<Command<'a>, AllocError>
+    ensures app { IfOk result (λ c. app_of c ≡ with_told_pipeline (app_of command.entry)) }
+    ensures local { IsLocal command.entry → IfOk result IsLocal }
+{
+    with_pipeline(alloc, command)?.arg(verbose_flag(alloc))
+}
+
+/// The same, and the limit of cycles.
+fn with_pipelined_run<'a>(alloc: Global, command: Command<'a>) -> Result<Command<'a>, AllocError>
+    ensures app { IfOk result (λ c. app_of c ≡ with_pipelined_run (app_of command.entry)) }
+    ensures local { IsLocal command.entry → IfOk result IsLocal }
+{
+    with_told_pipeline(alloc, command)?.arg(cycles_option(alloc))
+}
+
 /// The command with the limit of blocks, what is told beside the report, and the settings.
 fn with_start<'a>(alloc: Global, command: Command<'a>) -> Result<Command<'a>, AllocError>
     ensures app { IfOk result (λ c. app_of c ≡ with_start (app_of command.entry)) }
@@ -295,10 +321,10 @@ fn pack_command<'a>(alloc: Global) -> Result<Command<'a>, AllocError>
     let command = Command::new(alloc, "pack")
         .about("Reads serial text and writes its listing")
         .override_usage(
-            "c62 pack [--turns] [--eject <N>] [--shortest] [--search <N>] [-o <FILE>] [FILE]",
+            "c62 pack [--turns] [--eject <N>] [--shortest] [--search <N>] [-o <FILE>] [FILE]\n       c62 pack --pipeline [--trips <L=N>]... [--apart <REG,REG,..>] [--verbose] [-o <FILE>] [FILE]",
         )
-        .after_help(ending!("c62 pack kernel.s"));
-    with_packing(alloc, command)
+        .after_help(ending!("c62 pack --pipeline --trips LOOP=8 kernel.s"));
+    with_told_pipeline(alloc, with_packing(alloc, command)?)
 }
 
 fn show_command<'a>(alloc: Global) -> Result<Command<'a>, AllocError>
@@ -308,10 +334,11 @@ fn show_command<'a>(alloc: Global) -> Result<Command<'a>, AllocError>
     let command = Command::new(alloc, "show")
         .about("Packs serial text and shows each block's schedule, and how short one can be")
         .override_usage(
-            "c62 show [--why] [--registers] [--summary] [--turns] [--eject <N>] [--shortest] [--search <N>] [-o <FILE>] [FILE]\n       c62 show --listing|--packets [--why] [--registers] [--summary] [-o <FILE>] [FILE]",
+            "c62 show [--why] [--registers] [--summary] [--turns] [--eject <N>] [--shortest] [--search <N>] [-o <FILE>] [FILE]\n       c62 show --pipeline [--trips <L=N>]... [--apart <REG,REG,..>] [-o <FILE>] [FILE]\n       c62 show --listing|--packets [--why] [--registers] [--summary] [-o <FILE>] [FILE]",
         )
         .after_help(ending!("c62 show --why kernel.s"));
-    with_details(alloc, with_forms(alloc, with_packing(alloc, command)?)?)
+    let command = with_pipeline(alloc, with_packing(alloc, command)?)?;
+    with_details(alloc, with_forms(alloc, command)?)
 }
 
 fn run_command<'a>(alloc: Global) -> Result<Command<'a>, AllocError>
@@ -321,10 +348,13 @@ fn run_command<'a>(alloc: Global) -> Result<Command<'a>, AllocError>
     let command = Command::new(alloc, "run")
         .about("Packs serial text, runs the packets and reports the end")
         .override_usage(
-            "c62 run [--turns] [--eject <N>] [--shortest] [--search <N>] [--blocks <N>] [--profile] [--strict] [-o <FILE>] [FILE] [SETTING]...",
+            "c62 run [--turns] [--eject <N>] [--shortest] [--search <N>] [--blocks <N>] [--profile] [--strict] [-o <FILE>] [FILE] [SETTING]...\n       c62 run --pipeline [--trips <L=N>]... [--apart <REG,REG,..>] [--verbose] [--cycles <N>] [--profile] [--strict] [-o <FILE>] [FILE] [SETTING]...",
         )
         .after_help(ending!("c62 run kernel.s A4=8 @8=99"));
-    with_start(alloc, with_packing(alloc, command)?)
+    with_start(
+        alloc,
+        with_pipelined_run(alloc, with_packing(alloc, command)?)?,
+    )
 }
 
 fn serial_command<'a>(alloc: Global) -> Result<Command<'a>, AllocError>

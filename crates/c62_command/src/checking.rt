@@ -1,8 +1,8 @@
-//! What the words of a check ask for.
+//! What the words of a check ask for, and what is promised of loops.
 
 ghost use Rattle.std.specs.Prelude.{◌≡◌, ◌∷◌, map, option_map, Some, IfOk, IfErr, false, codes};
 ghost use Rattle.clap.specs.Words.{app_of, rule_of, first_of};
-ghost use Rattle.c62_command.specs.CommandLine.{IsLocal, IsLoopsError, apart_rule, ask_of, check_asked, found_rows, loops_rule, trips_rule, with_loops};
+ghost use Rattle.c62_command.specs.CommandLine.{IsLocal, IsLoopsError, apart_rule, ask_of, check_asked, found_rows, loops_rule, pipeline_rule, trips_rule, with_loops, with_pipeline, with_promises};
 ghost use Rattle.c62_command.specs.Promises.{IsPromiseErrorIn, IsTripsError, all_trips, apart_of, trips_of, trips_words};
 
 use crate::command::{Request, form_in, is_set};
@@ -29,7 +29,7 @@ fn trips_option<'a>(alloc: Global) -> Arg<'a>
         .long("trips")
         .value_name("L=N")
         .action(ArgAction::Append)
-        .help("With --loops: the loop of label L is entered with at least N trips")
+        .help("A promise: the loop of label L is entered with at least N trips")
 }
 
 fn apart_option<'a>(alloc: Global) -> Arg<'a>
@@ -40,8 +40,16 @@ fn apart_option<'a>(alloc: Global) -> Arg<'a>
         .long("apart")
         .value_name("REG,REG,..")
         .help(
-            "With --loops: accesses from two of these registers never touch one byte in two iterations",
+            "A promise: accesses from two of these registers never touch one byte in two iterations",
         )
+}
+
+/// The command with what may be promised of loops.
+fn with_promises<'a>(alloc: Global, command: Command<'a>) -> Result<Command<'a>, AllocError>
+    ensures app { IfOk result (λ c. app_of c ≡ with_promises (app_of command.entry)) }
+    ensures local { IsLocal command.entry → IfOk result IsLocal }
+{
+    command.arg(trips_option(alloc))?.arg(apart_option(alloc))
 }
 
 /// The command with whether loops are checked, and what may be promised of them.
@@ -49,10 +57,28 @@ pub(crate) fn with_loops<'a>(alloc: Global, command: Command<'a>) -> Result<Comm
     ensures app { IfOk result (λ c. app_of c ≡ with_loops (app_of command.entry)) }
     ensures local { IsLocal command.entry → IfOk result IsLocal }
 {
-    command
-        .arg(loops_flag(alloc))?
-        .arg(trips_option(alloc))?
-        .arg(apart_option(alloc))
+    with_promises(alloc, command.arg(loops_flag(alloc))?)
+}
+
+fn pipeline_flag<'a>(alloc: Global) -> Arg<'a>
+    ensures rule { rule_of result ≡ pipeline_rule }
+    ensures local { result.global ≡ false }
+{
+    Arg::new(alloc, "pipeline")
+        .long("pipeline")
+        .action(ArgAction::SetTrue)
+        .help("Pipelines the loops of which trips enough are promised")
+}
+
+/// The command with whether loops are pipelined, and what may be promised of them.
+pub(crate) fn with_pipeline<'a>(
+    alloc: Global,
+    command: Command<'a>,
+) -> Result<Command<'a>, AllocError>
+    ensures app { IfOk result (λ c. app_of c ≡ with_pipeline (app_of command.entry)) }
+    ensures local { IsLocal command.entry → IfOk result IsLocal }
+{
+    with_promises(alloc, command.arg(pipeline_flag(alloc))?)
 }
 
 /// The trips that are promised, in their order.
@@ -77,7 +103,7 @@ fn regs_in(alloc: Global, matches: &ArgMatches<'_>) -> Result<Option<Vec<Reg>>, 
 }
 
 /// What is promised of loops.
-fn promises_in(alloc: Global, matches: &ArgMatches<'_>) -> Result<Promises, PromiseError>
+pub(crate) fn promises_in(alloc: Global, matches: &ArgMatches<'_>) -> Result<Promises, PromiseError>
     ensures trips { IfOk result (λ promises. all_trips (trips_words (found_rows matches.now)) ≡ Some (map trips_of promises.trips.items)) }
     ensures apart { IfOk result (λ promises. apart_of (found_rows matches.now) ≡ Some promises.apart.items) }
     ensures err { IfErr result (IsPromiseErrorIn (found_rows matches.now)) }

@@ -3,12 +3,13 @@
 ghost use Rattle.std.specs.Prelude.{◌≡◌, IfOk, IfErr, Some, false, map, [], codes, option_map};
 ghost use Rattle.std.specs.Str.{bytes_eq};
 ghost use Rattle.clap.specs.Words.{first_of, subcommand_of, subcommand_rows_of, fault_of};
-ghost use Rattle.c62_command.specs.CommandLine.{form_of, tool_app, is_set, blocks_of, cycles_of, budget_of, packing_of, showing_of, show_asked, found_rows, words_of, named_rows, ask_in, ask_of, asked, IsBadIn, IsBlame, IsRefusal, IsWordsError, IsSettingError, IsPromiseError, IsRefusalIn, course_of, choices_of, asks_shortest, flight_course_of};
+ghost use Rattle.c62_command.specs.CommandLine.{form_of, tool_app, is_set, blocks_of, cycles_of, budget_of, packing_of, showing_of, show_asked, found_rows, words_of, named_rows, ask_in, ask_of, pipelined_asked, plain_asked, asked, IsBadIn, IsBlame, IsRefusal, IsWordsError, IsSettingError, IsPromiseError, IsRefusalIn, course_of, choices_of, asks_shortest, flight_course_of};
+ghost use Rattle.c62_command.specs.Promises.{IsPromiseErrorIn, all_trips, apart_of, trips_of, trips_words};
 ghost use Rattle.c62_command.specs.Settings.{AreSettings, IsBadAmong};
 
 use crate::arguments::tool_command;
-use crate::checking::check_in;
-use crate::flight::{FlightStart, flight_course_in};
+use crate::checking::{check_in, promises_in};
+use crate::flight::{FlightCourse, FlightStart, flight_course_in};
 use crate::promise::{BadPromise, PromiseError, Promises};
 use crate::setting::{Setting, SettingError, read_settings};
 use clap::error::ErrorKind;
@@ -83,6 +84,23 @@ pub enum Form {
     Written,
 }
 
+/// How the loops of a text are pipelined.
+#[derive(Debug, Drop)]
+pub struct Looping {
+    /// How its blocks are packed.
+    pub packing: Packing,
+    pub promises: Promises,
+    /// Whether it is told what became of each loop.
+    pub verbose: bool,
+}
+
+/// A run of packets in flight from their first on.
+#[derive(Debug, Drop)]
+pub struct Flight {
+    pub course: FlightCourse,
+    pub settings: Vec<Setting>,
+}
+
 /// What was asked for.
 #[derive(Debug, Drop)]
 pub enum Request {
@@ -108,6 +126,12 @@ pub enum Request {
     Check(Form),
     /// What packets are that pipeline the loops of a serial text, where so much is promised of these.
     CheckLoops(Promises),
+    /// The packets of a serial text whose loops are pipelined.
+    PackLoops(Looping),
+    /// The picture of the loops of such packets.
+    ShowLoops(Looping),
+    /// The report of a run of such packets.
+    RunLoops(Looping, Flight),
 }
 
 /// Why words ask for nothing.
@@ -367,10 +391,11 @@ pub(crate) fn form_in(matches: &ArgMatches<'_>) -> Form
     }
 }
 
-/// What the subcommand of this name, which isn't `check`, asks for.
+/// What the subcommand of this name, which is neither `check` nor `adopt`, asks for where its loops aren't pipelined.
 fn request_named(alloc: Global, name: &str, found: &ArgMatches<'_>) -> Result<Request, SettingError>
-    requires { bytes_eq name.now (codes "check") ≡ false }
-    ensures ok { IfOk result (λ request. ask_in (named_rows name.now found.now) ≡ Some (ask_of request)) }
+    requires check { bytes_eq name.now (codes "check") ≡ false }
+    requires adopt { bytes_eq name.now (codes "adopt") ≡ false }
+    ensures ok { IfOk result (λ request. plain_asked name.now (found_rows found.now) ≡ Some (ask_of request)) }
     ensures err { IfErr result (IsBadIn (named_rows name.now found.now)) }
 {
     if name == "pack" {
@@ -378,9 +403,6 @@ fn request_named(alloc: Global, name: &str, found: &ArgMatches<'_>) -> Result<Re
     }
     if name == "show" {
         return Ok(show_in(found));
-    }
-    if name == "adopt" {
-        return Ok(Request::Adopt(adopting_in(alloc, found)?));
     }
     if name == "exec" {
         return Ok(Request::Exec(flight_in(alloc, found)?));
@@ -395,6 +417,58 @@ fn request_named(alloc: Global, name: &str, found: &ArgMatches<'_>) -> Result<Re
     })
 }
 
+/// A run of packets whose loops are pipelined, by the options of its subcommand.
+fn loop_flight_in(alloc: Global, matches: &ArgMatches<'_>) -> Result<Flight, SettingError>
+    ensures course { IfOk result (λ flight. flight.course ≡ flight_course_of (found_rows matches.now)) }
+    ensures settings { IfOk result (λ flight. AreSettings (words_of matches.now) flight.settings.items) }
+    ensures err { IfErr result (IsBadAmong (words_of matches.now)) }
+{
+    Ok(Flight {
+        course: flight_course_in(matches),
+        settings: settings_in(alloc, matches)?,
+    })
+}
+
+/// How loops are pipelined, by the options of a subcommand.
+fn looping_in(alloc: Global, matches: &ArgMatches<'_>) -> Result<Looping, PromiseError>
+    ensures packing { IfOk result (λ looping. looping.packing ≡ packing_of (found_rows matches.now)) }
+    ensures verbose { IfOk result (λ looping. looping.verbose ≡ is_set (codes "verbose") (found_rows matches.now)) }
+    ensures trips { IfOk result (λ looping. all_trips (trips_words (found_rows matches.now)) ≡ Some (map trips_of looping.promises.trips.items)) }
+    ensures apart { IfOk result (λ looping. apart_of (found_rows matches.now) ≡ Some looping.promises.apart.items) }
+    ensures err { IfErr result (IsPromiseErrorIn (found_rows matches.now)) }
+{
+    Ok(Looping {
+        packing: packing_in(matches),
+        promises: promises_in(alloc, matches)?,
+        verbose: is_set(matches, "verbose"),
+    })
+}
+
+/// What such a subcommand asks for where its loops are pipelined.
+fn pipelined_named(
+    alloc: Global,
+    name: &str,
+    found: &ArgMatches<'_>,
+    looping: Looping,
+) -> Result<Request, SettingError>
+    requires check { bytes_eq name.now (codes "check") ≡ false }
+    requires adopt { bytes_eq name.now (codes "adopt") ≡ false }
+    requires packing { looping.packing ≡ packing_of (found_rows found.now) }
+    requires verbose { looping.verbose ≡ is_set (codes "verbose") (found_rows found.now) }
+    ensures ok { IfOk result (λ request. pipelined_asked name.now (found_rows found.now) (map trips_of looping.promises.trips.items)
+        looping.promises.apart.items ≡ Some (ask_of request)) }
+    ensures err { IfErr result (IsBadIn (named_rows name.now found.now)) }
+{
+    if name == "pack" {
+        return Ok(Request::PackLoops(looping));
+    }
+    if name == "show" {
+        return Ok(Request::ShowLoops(looping));
+    }
+    let flight = loop_flight_in(alloc, found)?;
+    Ok(Request::RunLoops(looping, flight))
+}
+
 /// What any subcommand asks for.
 fn request_of(alloc: Global, name: &str, found: &ArgMatches<'_>) -> Result<Request, CommandError>
     ensures ok { IfOk result (λ request. ask_in (named_rows name.now found.now) ≡ Some (ask_of request)) }
@@ -402,6 +476,16 @@ fn request_of(alloc: Global, name: &str, found: &ArgMatches<'_>) -> Result<Reque
 {
     if name == "check" {
         return Ok(check_in(alloc, found)?);
+    }
+    if name == "adopt" {
+        return match adopting_in(alloc, found) {
+            Ok(adopting) => Ok(Request::Adopt(adopting)),
+            Err(_) => Err(CommandError::Memory),
+        };
+    }
+    if is_set(found, "pipeline") {
+        let looping = looping_in(alloc, found)?;
+        return Ok(pipelined_named(alloc, name, found, looping)?);
     }
     Ok(request_named(alloc, name, found)?)
 }

@@ -12,7 +12,8 @@ mod setting;
 
 pub use blamed::setting_at;
 pub use command::{
-    Adopting, CommandError, Course, Form, Packing, Request, Showing, Start, command_of,
+    Adopting, CommandError, Course, Flight, Form, Looping, Packing, Request, Showing, Start,
+    command_of,
 };
 pub use flight::{FlightCourse, FlightStart};
 pub use laws::{prints_are_of_memory, takes_limits};

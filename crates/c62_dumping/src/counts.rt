@@ -46,12 +46,15 @@ pub fn counts_asked(alloc: Global, request: &Request) -> Result<Vec<usize>, Allo
             counts_in(alloc, &start.settings)
         }
         Request::Exec(start) => counts_in(alloc, &start.settings),
+        Request::RunLoops(_, flight) => counts_in(alloc, &flight.settings),
         Request::Pack(_)
         | Request::Show(_)
         | Request::ShowListing(_)
         | Request::ShowPackets(_)
         | Request::Adopt(_)
         | Request::Check(_)
-        | Request::CheckLoops(_) => Ok(Vec::new(alloc)),
+        | Request::CheckLoops(_)
+        | Request::PackLoops(_)
+        | Request::ShowLoops(_) => Ok(Vec::new(alloc)),
     }
 }

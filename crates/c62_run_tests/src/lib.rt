@@ -8,6 +8,7 @@ mod adopt;
 mod check;
 #[cfg(test)]
 mod exec;
+mod loops;
 #[cfg(test)]
 mod show;
 #[cfg(test)]

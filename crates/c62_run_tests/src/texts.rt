@@ -309,8 +309,8 @@ Usage: c62 check [--packets] [-o <FILE>] <TEXT> <LISTING>
 Options:
       --packets             Reads packets as they are written in place of a listing
       --loops               Reads packets in flight, and tells whether they do what the text's loops do
-      --trips <L=N>         With --loops: the loop of label L is entered with at least N trips
-      --apart <REG,REG,..>  With --loops: accesses from two of these registers never touch one byte in two iterations
+      --trips <L=N>         A promise: the loop of label L is entered with at least N trips
+      --apart <REG,REG,..>  A promise: accesses from two of these registers never touch one byte in two iterations
   -h, --help                Print help
 ",
         "c62 check kernel.s hand.lst",

@@ -1,8 +1,8 @@
 //! What words ask for, as the README and docs/REPORT.md say.
 
 use c62_command::{
-    Adopting, BadPromise, CommandError, Dump, FlightStart, Form, Packing, Print, Promises, Request,
-    Setting, Showing, Size, Start, command_of,
+    Adopting, BadPromise, CommandError, Dump, Flight, FlightStart, Form, Looping, Packing, Print,
+    Promises, Request, Setting, Showing, Size, Start, command_of,
 };
 use c62_op::{Reg, Side};
 use std::alloc::Global;
@@ -216,6 +216,70 @@ const CHECKS: [(&[&str], &str); 17] = [
     (&["sim", "--loops"], "words"),
 ];
 
+/// Words for packets whose loops are pipelined.
+const PIPELINES: [(&[&str], &str); 16] = [
+    (
+        &["pack", "--pipeline"],
+        "pack loops by workers, 0 ejections",
+    ),
+    (
+        &[
+            "pack",
+            "--turns",
+            "--pipeline",
+            "--verbose",
+            "--trips",
+            "L=8",
+            "--trips=M1=0x10",
+            "--apart",
+            "A4,b15",
+        ],
+        "pack loops by turns, 0 ejections, verbose, L from 8, M1 from 16, A4, B15",
+    ),
+    (
+        &["show", "--pipeline", "--trips", "L=1"],
+        "show loops by workers, 0 ejections, L from 1",
+    ),
+    (
+        &[
+            "run",
+            "--pipeline",
+            "--turns",
+            "--cycles",
+            "7",
+            "--trips",
+            "L=2",
+            "A4=5",
+        ],
+        "run loops by turns, 0 ejections, L from 2; 7 cycles, A4 = 5",
+    ),
+    (
+        &["run", "--pipeline", "--strict", "--profile"],
+        "run loops by workers, 0 ejections; 1000000 cycles, profile, strict",
+    ),
+    // Without --pipeline nothing is promised, and so nothing is judged.
+    (
+        &["pack", "--trips", "L", "--verbose"],
+        "pack by workers, 0 ejections",
+    ),
+    (
+        &["run", "--apart", "A16", "--cycles", "5"],
+        "run by workers, 0 ejections; 1000 blocks",
+    ),
+    (&["pack", "--pipeline", "--trips", "L"], "trips 1"),
+    (
+        &["show", "--pipeline", "--trips", "L=1", "--trips", "L=0"],
+        "trips 2",
+    ),
+    (&["run", "--pipeline", "--apart", "A16"], "apart"),
+    (&["run", "--pipeline", "--apart", "A16", "A16=1"], "apart"),
+    (&["run", "--pipeline", "A4=1", "A16=1"], "setting 2"),
+    (&["pack", "--pipeline", "--pipeline"], "words"),
+    (&["show", "--verbose"], "words"),
+    (&["run", "--pipeline", "--cycles", "0"], "words"),
+    (&["serial", "--pipeline"], "words"),
+];
+
 fn packing_text(alloc: Global, packing: Packing) -> Result<String, Fail> {
     let way = if packing.turns { "turns" } else { "workers" };
     let mut text = format!(in alloc; "by {way}, {} ejections", packing.budget)?;
@@ -308,7 +372,7 @@ fn adopting_text(alloc: Global, adopting: &Adopting) -> Result<String, Fail> {
 }
 
 fn promises_text(alloc: Global, promises: &Promises) -> Result<String, Fail> {
-    let mut text = format!(in alloc; "check loops")?;
+    let mut text = String::new(alloc);
     for trips in &promises.trips {
         let label = str::from_utf8(&trips.label).unwrap_or("?");
         text.push_str(&format!(in alloc; ", {label} from {}", trips.least)?)?;
@@ -316,6 +380,22 @@ fn promises_text(alloc: Global, promises: &Promises) -> Result<String, Fail> {
     for reg in &promises.apart {
         text.push_str(&format!(in alloc; ", {}", register_text(alloc, *reg)?)?)?;
     }
+    Ok(text)
+}
+
+fn looping_text(alloc: Global, looping: &Looping) -> Result<String, Fail> {
+    let mut text = packing_text(alloc, looping.packing)?;
+    text.push_str(if looping.verbose { ", verbose" } else { "" })?;
+    text.push_str(&promises_text(alloc, &looping.promises)?)?;
+    Ok(text)
+}
+
+fn loop_flight_text(alloc: Global, flight: &Flight) -> Result<String, Fail> {
+    let course = flight.course;
+    let mut text = format!(in alloc; "{} cycles", course.cycles)?;
+    text.push_str(if course.profile { ", profile" } else { "" })?;
+    text.push_str(if course.strict { ", strict" } else { "" })?;
+    text.push_str(&settings_text(alloc, &flight.settings)?)?;
     Ok(text)
 }
 
@@ -356,7 +436,20 @@ fn request_text(alloc: Global, request: &Request) -> Result<String, Fail> {
         Request::Exec(start) => format!(in alloc; "exec; {}", flight_text(alloc, start)?)?,
         Request::Adopt(adopting) => adopting_text(alloc, adopting)?,
         Request::Check(form) => format!(in alloc; "check{}", form_text(*form))?,
-        Request::CheckLoops(promises) => promises_text(alloc, promises)?,
+        Request::CheckLoops(promises) => {
+            format!(in alloc; "check loops{}", promises_text(alloc, promises)?)?
+        }
+        Request::PackLoops(looping) => {
+            format!(in alloc; "pack loops {}", looping_text(alloc, looping)?)?
+        }
+        Request::ShowLoops(looping) => {
+            format!(in alloc; "show loops {}", looping_text(alloc, looping)?)?
+        }
+        Request::RunLoops(looping, flight) => format!(in alloc;
+            "run loops {}; {}",
+            looping_text(alloc, looping)?,
+            loop_flight_text(alloc, flight)?
+        )?,
     })
 }
 
@@ -391,6 +484,11 @@ fn words_ask_for_listings(rt: HostRuntime) -> Result<(), Fail> {
 #[test]
 fn words_ask_for_checks(rt: HostRuntime) -> Result<(), Fail> {
     are_asked(&rt, rt.alloc(), &CHECKS)
+}
+
+#[test]
+fn words_ask_for_pipelined_loops(rt: HostRuntime) -> Result<(), Fail> {
+    are_asked(&rt, rt.alloc(), &PIPELINES)
 }
 
 #[test]

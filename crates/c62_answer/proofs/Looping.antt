@@ -1,0 +1,149 @@
+-- Packets of a text whose loops are pipelined, from what each step gave.
+use Rattle.std.proofs.Common.{◌≡◌, ℕ, Bool, List, Some, None, Ok, Err, refl, sym, subst, inl, inr}
+use Rattle.clap.specs.Words.{Text as Name}
+use Rattle.c62_op.specs.declared.register.Reg.{Reg}
+use Rattle.c62_read.specs.Block.{Serial}
+use Rattle.c62_packet.specs.Packed.{Packed}
+use Rattle.c62_rows.specs.declared.fault.RowsFault.{RowsFault}
+use Rattle.c62_rows.specs.declared.text.Begun.{Begun}
+use Rattle.c62_rows.specs.Rows.{text_of}
+use Rattle.c62_rows.specs.Text.{RefusesFrom}
+use Rattle.c62_rows.specs.Told.{BeginsAs}
+use Rattle.c62_check_loops.specs.Granted.{first_loopless}
+use Rattle.c62_command.specs.CommandLine.{Ask, LoopListing, LoopPicture, LoopReport}
+use Rattle.c62_command.specs.declared.command.Packing.{Packing}
+use Rattle.c62_command.specs.declared.flight.FlightCourse.{FlightCourse}
+use Rattle.c62_command.specs.declared.setting.Setting.{Setting}
+use Rattle.c62_pipeline.specs.declared.written.Pipelining.{Pipelining}
+use Rattle.c62_pipeline.specs.Checked.{IsWritten}
+use Rattle.c62_answer.specs.declared.failure.Failure.{Failure}
+use Rattle.c62_answer.specs.declared.failure.Failure.TheVariants as failures
+use Rattle.c62_answer.specs.declared.outcome.Outcome.{Outcome}
+use Rattle.c62_answer.specs.Message.{fault_message, no_loop}
+use Rattle.c62_answer.specs.Looped.{IsLooped, IsUnlooped, told_lines}
+use Rattle.c62_answer.specs.Run.{Gives, GivesProgram, IsFlown, IsLoopReport, IsRefusedText, IsRowsFailure}
+use Rattle.c62_answer.specs.Run.{RefusesLooped, breach_of}
+use Rattle.c62_answer.specs.Schedule.{AreScheduled}
+use Rattle.c62_answer.specs.Texts.{SaysProgram}
+use Rattle.c62_answer.proofs.OneText.{one_program}
+
+module _ (trips : List (Name × ℕ)) (text : List ℕ) where
+  -- no program was read
+  pub unread_loops : (f : Failure) → GivesProgram text (Err f) → RefusesLooped trips text f
+  unread_loops (failures.Unread fault) gives = inl gives
+  unread_loops (failures.Unlisted fault) gives = absurd gives
+  unread_loops (failures.Unadopted fault) gives = absurd gives
+  unread_loops (failures.Unflown fault) gives = absurd gives
+  unread_loops (failures.TextPart fault) gives = absurd gives
+  unread_loops (failures.ListingPart fault) gives = absurd gives
+  unread_loops (failures.PacketsPart fault) gives = absurd gives
+  unread_loops failures.NoListing gives = absurd gives
+  unread_loops (failures.RowsPart fault) gives = absurd gives
+  unread_loops (failures.NoLoop k) gives = absurd gives
+  unread_loops (failures.Promise bad) gives = absurd gives
+  unread_loops (failures.Words e) gives = absurd gives
+  unread_loops (failures.Setting k) gives = absurd gives
+  unread_loops failures.Memory gives = tt
+  unread_loops failures.Input gives = absurd gives
+  unread_loops failures.Output gives = absurd gives
+
+  -- a label is no loop's
+  pub loopless : (program : List Serial) (number : ℕ) → SaysProgram text program
+      → first_loopless program trips ≡ Some number → RefusesLooped trips text (failures.NoLoop number)
+  loopless program number says first =
+      inr (record { program = program; says = says; number = number; first = first; told = refl })
+
+  -- what refuses loops refuses what is asked of them
+  pub no_loops : (ask : Ask) → ((message : List ℕ) → IsUnlooped trips text message → IsRefusedText ask text message)
+      → (f : Failure) → RefusesLooped trips text f → Gives ask text (Err f)
+  no_loops ask same (failures.Unread fault) gives = same (fault_message fault.line fault.cause) gives
+  no_loops ask same (failures.Unlisted fault) gives = absurd gives
+  no_loops ask same (failures.Unadopted fault) gives = absurd gives
+  no_loops ask same (failures.Unflown fault) gives = absurd gives
+  no_loops ask same (failures.TextPart fault) gives = absurd gives
+  no_loops ask same (failures.ListingPart fault) gives = absurd gives
+  no_loops ask same (failures.PacketsPart fault) gives = absurd gives
+  no_loops ask same failures.NoListing gives = absurd gives
+  no_loops ask same (failures.RowsPart fault) gives = absurd gives
+  no_loops ask same (failures.NoLoop number) gives = same (no_loop number) gives
+  no_loops ask same (failures.Promise bad) gives = absurd gives
+  no_loops ask same (failures.Words e) gives = absurd gives
+  no_loops ask same (failures.Setting k) gives = absurd gives
+  no_loops ask same failures.Memory gives = tt
+  no_loops ask same failures.Input gives = absurd gives
+  no_loops ask same failures.Output gives = absurd gives
+
+-- of each of the three
+pub no_listed_loops : (verbose : Bool) (packing : Packing) (trips : List (Name × ℕ)) (apart : List Reg) (text : List ℕ)
+    (f : Failure) → RefusesLooped trips text f → Gives (LoopListing verbose packing trips apart) text (Err f)
+no_listed_loops verbose packing trips apart text =
+    no_loops trips text (LoopListing verbose packing trips apart) (λ message is. is)
+
+pub no_drawn_loops : (packing : Packing) (trips : List (Name × ℕ)) (apart : List Reg) (text : List ℕ)
+    (f : Failure) → RefusesLooped trips text f → Gives (LoopPicture packing trips apart) text (Err f)
+no_drawn_loops packing trips apart text = no_loops trips text (LoopPicture packing trips apart) (λ message is. is)
+
+pub no_run_loops : (verbose : Bool) (packing : Packing) (trips : List (Name × ℕ)) (apart : List Reg)
+    (course : FlightCourse) (settings : List Setting) (text : List ℕ) (f : Failure) → RefusesLooped trips text f
+    → Gives (LoopReport verbose packing trips apart course settings) text (Err f)
+no_run_loops verbose packing trips apart course settings text =
+    no_loops trips text (LoopReport verbose packing trips apart course settings) (λ message is. inl is)
+
+-- a program was read twice, and packed
+pub looped_text : (packing : Packing) (trips : List (Name × ℕ)) (apart : List Reg) (text : List ℕ)
+    (program again : List Serial) (own : List Packed) (written : Pipelining)
+    → SaysProgram text program → first_loopless program trips ≡ None → SaysProgram text again
+    → AreScheduled packing again own → IsWritten trips apart program own written
+    → IsLooped packing trips apart text program written
+looped_text packing trips apart text program again own written says named other packed is = record {
+  says = says;
+  named = named;
+  own = own;
+  packed = subst (λ (p : List Serial). AreScheduled packing p own) (one_program text again program other says) packed;
+  is = is;
+}
+
+-- ---- a run
+
+-- what is written isn't read again
+pub unread_again : (verbose : Bool) (packing : Packing) (trips : List (Name × ℕ)) (apart : List Reg)
+    (course : FlightCourse) (settings : List Setting) (text : List ℕ) (program : List Serial) (written : Pipelining)
+    (fault : RowsFault) (f : Failure)
+    → IsLooped packing trips apart text program written → IsRowsFailure fault f
+    → RefusesFrom written.text.items None fault
+    → Gives (LoopReport verbose packing trips apart course settings) text (Err f)
+unread_again verbose packing trips apart course settings text program written fault f looped (inl memory) refused =
+    rw (memory.1) tt
+unread_again verbose packing trips apart course settings text program written fault f looped (inr known) refused =
+    rw (known.1) (inr (record {
+      program = program;
+      written = written;
+      looped = looped;
+      fault = fault;
+      known = known.0;
+      refused = refused;
+      told = refl;
+    }))
+
+-- it is, and this is its run
+pub loops_flown : (verbose : Bool) (packing : Packing) (trips : List (Name × ℕ)) (apart : List Reg)
+    (course : FlightCourse) (settings : List Setting) (told text answer : List ℕ) (program : List Serial)
+    (written : Pipelining) (begun : Begun) (outcome : Outcome)
+    → IsLooped packing trips apart text program written → told ≡ told_lines verbose program written
+    → BeginsAs written.text.items None begun
+    → IsFlown (text_of begun.rows) begun.labels.entries begun.first settings course outcome answer
+    → IsLoopReport verbose packing trips apart course settings told (breach_of outcome) text answer
+loops_flown verbose packing trips apart course settings told text answer program written begun outcome looped lines
+    begins flown = record {
+      program = program;
+      written = written;
+      looped = looped;
+      lines = lines;
+      flying = text_of begun.rows;
+      first = begun.first;
+      begins = begins.is_text;
+      outcome = outcome;
+      flown = subst (λ (labels : List (Name × ℕ)).
+          IsFlown (text_of begun.rows) labels begun.first settings course outcome answer) begins.named flown;
+      ends = refl;
+    }

@@ -1,0 +1,11 @@
+use Rattle.c62_answer.proofs.Looping.{loops_flown}
+use Rattle.c62_answer.proofs.pipelining.reported.Goals as goal
+
+pub returns : goal.returns
+returns c = λ packing trips apart text is.
+    let flight = c.args.flight.now in
+    let looped = c.args.looped.now in
+    rw c.breach.ensures
+    (loops_flown c.args.verbose packing trips apart flight.course flight.settings.items c.in_ok-told.told.items text
+    c.in_ok-reply.reply.text.items looped.program looped.written c.args.begun.now c.in_ok-reply.reply.outcome is
+    c.in_ok-told.ensures c.requires (rw c.deref.ensures.value at c.in_ok-reply.ensures))

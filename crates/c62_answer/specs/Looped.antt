@@ -1,0 +1,71 @@
+-- Packets of a text whose loops are pipelined (docs/SCHEDULING.md, "Loops of a program").
+use Rattle.std.specs.Prelude.{◌≡◌, ◌≢◌, ◌⊎◌, ℕ, Bool, true, false, List, [], Option, Some, None, Result, Ok, Err}
+use Rattle.clap.specs.Words.{Text as Name}
+use Rattle.c62_op.specs.declared.register.Reg.{Reg}
+use Rattle.c62_read.specs.Block.{Serial}
+use Rattle.c62_packet.specs.Packed.{Packed}
+use Rattle.c62_rows.specs.declared.fault.RowsFault.{RowsFault}
+use Rattle.c62_rows.specs.declared.fault.RowsFault.TheVariants.{Memory as NoPlace}
+use Rattle.c62_rows.specs.Text.{RefusesFrom}
+use Rattle.c62_check_loops.specs.Granted.{first_loopless}
+use Rattle.c62_command.specs.declared.command.Packing.{Packing}
+use Rattle.c62_pipeline.specs.declared.written.Pipelining.{Pipelining}
+use Rattle.c62_pipeline.specs.Checked.{IsWritten}
+use Rattle.c62_pipeline.specs.Kernel.{kernels}
+use Rattle.c62_pipeline.specs.Lines.{loop_lines}
+use Rattle.c62_answer.specs.Message.{no_loop, rows_message}
+use Rattle.c62_answer.specs.Schedule.{AreScheduled}
+use Rattle.c62_answer.specs.Texts.{SaysProgram, IsNoProgram}
+
+-- The text says this program, of which each of these labels is a loop's. These packets are written of it: those of its blocks, packed so, with
+-- its loops pipelined where it is told that all is the same with so many trips, and accesses apart from two of these registers.
+pub record IsLooped (packing : Packing) (trips : List (Name × ℕ)) (apart : List Reg) (text : List ℕ) (program : List Serial) (written : Pipelining) : Type 0 where
+  pub says : SaysProgram text program
+  pub named : first_loopless program trips ≡ None
+  pub own : List Packed
+  pub packed : AreScheduled packing program own
+  pub is : IsWritten trips apart program own written
+
+-- where it is asked for, what became of each loop
+abbrev pub told_lines : (verbose : Bool) → List Serial → Pipelining → List ℕ
+told_lines false program written = []
+told_lines true program written = loop_lines program written
+
+-- such packets, and what is told of the loops
+pub record IsLoopListing (verbose : Bool) (packing : Packing) (trips : List (Name × ℕ)) (apart : List Reg) (told text answer : List ℕ) : Type 0 where
+  pub program : List Serial
+  pub written : Pipelining
+  pub looped : IsLooped packing trips apart text program written
+  pub lines : told ≡ told_lines verbose program written
+  pub listed : answer ≡ written.text.items
+
+-- the picture of the loops of such packets
+pub record IsLoopPicture (packing : Packing) (trips : List (Name × ℕ)) (apart : List Reg) (text answer : List ℕ) : Type 0 where
+  pub program : List Serial
+  pub written : Pipelining
+  pub looped : IsLooped packing trips apart text program written
+  pub drawn : answer ≡ kernels program written
+
+-- ---- refusals
+
+-- the text says a program of which the label of these trips is no loop's, and their number is told
+pub record HasLoopless (trips : List (Name × ℕ)) (text message : List ℕ) : Type 0 where
+  pub program : List Serial
+  pub says : SaysProgram text program
+  pub number : ℕ
+  pub first : first_loopless program trips ≡ Some number
+  pub told : message ≡ no_loop number
+
+-- it says none, or trips are promised of what is no loop
+abbrev pub IsUnlooped : List (Name × ℕ) → List ℕ → List ℕ → Type 0
+IsUnlooped trips text message = IsNoProgram text message ⊎ HasLoopless trips text message
+
+-- packets are written of the text that aren't read again, and the message tells their fault
+pub record IsUnread (packing : Packing) (trips : List (Name × ℕ)) (apart : List Reg) (text message : List ℕ) : Type 0 where
+  pub program : List Serial
+  pub written : Pipelining
+  pub looped : IsLooped packing trips apart text program written
+  pub fault : RowsFault
+  pub known : fault ≢ NoPlace
+  pub refused : RefusesFrom written.text.items None fault
+  pub told : message ≡ rows_message fault

@@ -1,0 +1,237 @@
+//! Answers of packets whose loops are pipelined (docs/SCHEDULING.md, "Loops of a program").
+
+ghost use Rattle.std.specs.Prelude.{◌≡◌, map, IfOk, IfErr, IsTrue, None, List, ℕ};
+ghost use Rattle.clap.specs.Words.{Text as Name};
+ghost use Rattle.c62_op.specs.declared.register.Reg.{Reg as Register};
+ghost use Rattle.c62_packet.specs.Packets.{is_closed};
+ghost use Rattle.c62_rows.specs.Told.{BeginsAs};
+ghost use Rattle.c62_check_loops.specs.Granted.{first_loopless};
+ghost use Rattle.c62_command.specs.CommandLine.{LoopListing, LoopPicture, LoopReport};
+ghost use Rattle.c62_command.specs.Promises.{trips_of};
+ghost use Rattle.c62_command.specs.declared.command.Packing.{Packing as Packed};
+ghost use Rattle.c62_answer.specs.Looped.{IsLooped, told_lines};
+ghost use Rattle.c62_answer.specs.Run.{Gives, IsAnswer, RefusesLooped};
+ghost use Rattle.c62_answer.specs.Schedule.{AreScheduled};
+ghost use Rattle.c62_answer.specs.Texts.{SaysProgram};
+
+use crate::answer::program_of;
+use crate::exec::flown;
+use crate::failure::Failure;
+use crate::outcome::{Outcome, Reply};
+use crate::schedule::{packets_by_turns, packets_by_workers};
+use c62_check_loops::first_loopless;
+use c62_command::{Flight, Looping, Packing, Promises};
+use c62_packet::Packets;
+use c62_pipeline::{Pipelining, kernels, loop_lines, pipeline};
+use c62_read::Program;
+use c62_rows::{Begun, read_from};
+use std::alloc::{AllocError, Global};
+use std::sync::Wait;
+use std::thread::Threads;
+
+/// The program that a text says, where each label of which trips are promised is a loop's.
+#[tactic(auto, using(crate::proofs::Looping::unread_loops, crate::proofs::Looping::loopless))]
+fn looped_program(alloc: Global, text: &[u8], promises: &Promises) -> Result<Program, Failure>
+    ensures says { IfOk result (SaysProgram text.now) }
+    ensures named { IfOk result (λ program. first_loopless program (map trips_of promises.now.trips.items) ≡ None) }
+    ensures err { IfErr result (RefusesLooped (map trips_of promises.now.trips.items) text.now) }
+{
+    let program = match program_of(alloc, text) {
+        Ok(program) => program,
+        Err(failure) => return Err(failure),
+    };
+    match first_loopless(program.blocks(), &promises.trips) {
+        Some(number) => Err(Failure::NoLoop(number)),
+        None => Ok(program),
+    }
+}
+
+/// The packets of a program, packed as is asked for.
+fn packed<H: AllocGlobal + Threads + Wait + Sync>(
+    rt: &H,
+    program: Program,
+    packing: Packing,
+) -> Result<Packets, AllocError>
+    ensures packed { IfOk result (AreScheduled packing program) }
+    ensures closed { IfOk result (λ packets. IsTrue (is_closed packets)) }
+{
+    if packing.turns {
+        packets_by_turns(rt.alloc(), program, packing)
+    } else {
+        packets_by_workers(rt, program, packing)
+    }
+}
+
+/// A program, and packets of it whose loops are pipelined.
+#[derive(Drop)]
+struct Looped {
+    program: Program,
+    written: Pipelining,
+}
+
+/// The packets of a text whose loops are pipelined.
+#[tactic(auto, using(crate::proofs::Looping::unread_loops, crate::proofs::Looping::looped_text))]
+fn make_looped<H: AllocGlobal + Threads + Wait + Sync>(
+    rt: &H,
+    text: &[u8],
+    looping: &Looping,
+) -> Result<Looped, Failure>
+    ensures ok { IfOk result (λ looped. IsLooped looping.now.packing (map trips_of looping.now.promises.trips.items)
+        looping.now.promises.apart.items text.now looped.program looped.written) }
+    ensures err { IfErr result (RefusesLooped (map trips_of looping.now.promises.trips.items) text.now) }
+{
+    let program = match looped_program(rt.alloc(), text, &looping.promises) {
+        Ok(program) => program,
+        Err(failure) => return Err(failure),
+    };
+    let again = match program_of(rt.alloc(), text) {
+        Ok(again) => again,
+        Err(failure) => return Err(failure),
+    };
+    let packets = packed(rt, again, looping.packing)?;
+    let written = pipeline(rt.alloc(), &program, &packets, &looping.promises)?;
+    Ok(Looped { program, written })
+}
+
+/// What is told of loops, where that is asked for.
+fn told_lines(
+    alloc: Global,
+    verbose: bool,
+    program: &Program,
+    written: &Pipelining,
+) -> Result<Vec<u8>, AllocError>
+    ensures { IfOk result (λ told. told.items ≡ told_lines verbose program.now written.now) }
+{
+    if verbose {
+        Ok(loop_lines(alloc, program.blocks(), written)?.into_bytes())
+    } else {
+        Ok(Vec::new(alloc))
+    }
+}
+
+/// These packets, and what is told of their loops.
+fn listed(alloc: Global, verbose: bool, looped: Looped) -> Result<Reply, AllocError>
+    ensures { (packing : Packed) (trips : List (Name × ℕ)) (apart : List Register) (text : List ℕ)
+        → IsLooped packing trips apart text looped.program looped.written
+        → IfOk result (λ reply. IsAnswer (LoopListing verbose packing trips apart) reply.outcome text reply.text.items) }
+{
+    let Looped { program, written } = looped;
+    let told = told_lines(alloc, verbose, &program, &written)?;
+    Ok(Reply {
+        text: written.text,
+        outcome: Outcome::Looped(told, None),
+    })
+}
+
+/// The packets of a text whose loops are pipelined, and what is told of these.
+///
+/// # Errors
+///
+/// The first fault of the text, then that a label of `--trips` is no loop's, or that memory ran out.
+#[tactic(auto, using(crate::proofs::Looping::no_listed_loops))]
+pub(crate) fn loop_listing<H: AllocGlobal + Threads + Wait + Sync>(
+    rt: &H,
+    text: &[u8],
+    looping: &Looping,
+) -> Result<Reply, Failure>
+    ensures { Gives (LoopListing looping.now.verbose looping.now.packing (map trips_of looping.now.promises.trips.items)
+        looping.now.promises.apart.items) text.now result }
+{
+    match make_looped(rt, text, looping) {
+        Ok(looped) => Ok(listed(rt.alloc(), looping.verbose, looped)?),
+        Err(failure) => Err(failure),
+    }
+}
+
+/// The picture of the loops of these packets.
+fn drawn(alloc: Global, looped: &Looped) -> Result<Reply, AllocError>
+    ensures { (packing : Packed) (trips : List (Name × ℕ)) (apart : List Register) (text : List ℕ)
+        → IsLooped packing trips apart text looped.now.program looped.now.written
+        → IfOk result (λ reply. IsAnswer (LoopPicture packing trips apart) reply.outcome text reply.text.items) }
+{
+    let text = kernels(alloc, looped.program.blocks(), &looped.written)?;
+    Ok(Reply {
+        text: text.into_bytes(),
+        outcome: Outcome::Done,
+    })
+}
+
+/// The picture of the loops of such packets.
+///
+/// # Errors
+///
+/// Those of [`loop_listing`].
+#[tactic(auto, using(crate::proofs::Looping::no_drawn_loops))]
+pub(crate) fn loop_picture<H: AllocGlobal + Threads + Wait + Sync>(
+    rt: &H,
+    text: &[u8],
+    looping: &Looping,
+) -> Result<Reply, Failure>
+    ensures { Gives (LoopPicture looping.now.packing (map trips_of looping.now.promises.trips.items) looping.now.promises.apart.items) text.now result }
+{
+    match make_looped(rt, text, looping) {
+        Ok(looped) => Ok(drawn(rt.alloc(), &looped)?),
+        Err(failure) => Err(failure),
+    }
+}
+
+/// The report of a run of these packets, which begins so, and what is told of their loops.
+#[tactic(auto, using(crate::proofs::Looping::loops_flown))]
+fn reported(
+    alloc: Global,
+    verbose: bool,
+    looped: &Looped,
+    begun: &Begun,
+    flight: &Flight,
+) -> Result<Reply, AllocError>
+    requires { BeginsAs looped.now.written.text.items None begun.now }
+    ensures { (packing : Packed) (trips : List (Name × ℕ)) (apart : List Register) (text : List ℕ)
+        → IsLooped packing trips apart text looped.now.program looped.now.written
+        → IfOk result (λ reply. IsAnswer (LoopReport verbose packing trips apart flight.now.course flight.now.settings.items) reply.outcome text reply.text.items) }
+{
+    let told = told_lines(alloc, verbose, &looped.program, &looped.written)?;
+    let reply = flown(alloc, begun, &flight.settings, flight.course)?;
+    Ok(Reply {
+        text: reply.text,
+        outcome: Outcome::Looped(told, reply.outcome.breach()),
+    })
+}
+
+/// The report of a run of these packets, where they are read again, and what is told of their loops.
+#[tactic(auto, using(crate::proofs::Looping::unread_again))]
+fn run_again(
+    alloc: Global,
+    verbose: bool,
+    looped: &Looped,
+    flight: &Flight,
+) -> Result<Reply, Failure>
+    ensures { (packing : Packed) (trips : List (Name × ℕ)) (apart : List Register) (text : List ℕ)
+        → IsLooped packing trips apart text looped.now.program looped.now.written
+        → Gives (LoopReport verbose packing trips apart flight.now.course flight.now.settings.items) text result }
+{
+    match read_from(alloc, &looped.written.text, None) {
+        Ok(begun) => Ok(reported(alloc, verbose, looped, &begun, flight)?),
+        Err(fault) => Err(Failure::from(fault)),
+    }
+}
+
+/// The report of a run of packets of a text whose loops are pipelined, and what is told of these.
+///
+/// # Errors
+///
+/// Those of [`loop_listing`].
+#[tactic(auto, using(crate::proofs::Looping::no_run_loops))]
+pub(crate) fn loop_report<H: AllocGlobal + Threads + Wait + Sync>(
+    rt: &H,
+    text: &[u8],
+    looping: &Looping,
+    flight: &Flight,
+) -> Result<Reply, Failure>
+    ensures { Gives (LoopReport looping.now.verbose looping.now.packing (map trips_of looping.now.promises.trips.items)
+        looping.now.promises.apart.items flight.now.course flight.now.settings.items) text.now result }
+{
+    match make_looped(rt, text, looping) {
+        Ok(looped) => run_again(rt.alloc(), looping.verbose, &looped, flight),
+        Err(failure) => Err(failure),
+    }
+}
