@@ -5,6 +5,8 @@
 #[cfg(test)]
 mod exec;
 #[cfg(test)]
+mod faulted;
+#[cfg(test)]
 mod listing;
 #[cfg(test)]
 mod listing_reader;

@@ -447,7 +447,11 @@ const WRITES: [Written<'static>; 14] = [
     },
     Written {
         words: &["sim", "A4=1", "fault.lst", "--strict", "-o", "old"],
-        wanted: ("", "", 7),
+        wanted: (
+            "",
+            "line 1: LDH reads 2 bytes at 0x1, no multiple of 2\n",
+            7,
+        ),
         file: (
             "old",
             "blocks 1\ncycles 5\nexit end\nA4 00000001\nfault 1\n",
@@ -536,7 +540,7 @@ const WRITES: [Written<'static>; 14] = [
         ],
         wanted: (
             "blocks 1\ncycles 5\nexit end\nA4 00000001\n@0008 00000041\nfault 1\n",
-            "",
+            "line 1: LDH reads 2 bytes at 0x1, no multiple of 2\n",
             7,
         ),
         file: ("old", "A"),

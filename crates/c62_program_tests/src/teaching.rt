@@ -41,7 +41,7 @@ const UNKNOWN: &str = "-:1:2: error: UnknownMnemonic: a mnemonic is wanted here\
 const TWICE: &str = "  add .l1 a1,a2,a3\n||  sub .l1 a4,a5,a6\n";
 
 /// Words, standard input, and the output, what is told and the status.
-const RUNS: [(&[&str], &str, &str, &str, u8); 41] = [
+const RUNS: [(&[&str], &str, &str, &str, u8); 45] = [
     (&["lint"], "MVK 1,A1\n", "", "", 0),
     (&["lint"], " FOO\n", UNKNOWN, "", 1),
     (&["lint", "--most", "1"], " FOO\n BAR\n", UNKNOWN, "", 1),
@@ -199,7 +199,36 @@ const RUNS: [(&[&str], &str, &str, &str, u8); 41] = [
         "line 1: STB writes 1 byte at 0x10000, past the end of memory\n",
         7,
     ),
-    // without `--strict`, or of packets, nothing is told
+    // so it is with packets, whose lines are those of the text as it is given
+    (
+        &["sim", "--strict", "A4=1"],
+        "   LDH .D1T1 *A4,A5\n   NOP 4\n",
+        "blocks 1\ncycles 5\nexit end\nA4 00000001\nfault 1\n",
+        "line 1: LDH reads 2 bytes at 0x1, no multiple of 2\n",
+        7,
+    ),
+    (
+        &["sim", "--packets", "--strict", "A4=1"],
+        "; one\n LDH .D1 *A4,A5\n NOP 4\n",
+        "blocks 1\ncycles 5\nexit end\nA4 00000001\nfault 2\n",
+        "line 2: LDH reads 2 bytes at 0x1, no multiple of 2\n",
+        7,
+    ),
+    (
+        &["exec", "--strict", "A4=0x10000"],
+        " STB .D1 A5,*A4\n",
+        "cycles 1\nexit end\nA4 00010000\nfault 1\n",
+        "line 1: STB writes 1 byte at 0x10000, past the end of memory\n",
+        7,
+    ),
+    (
+        &["exec", "--from", "L", "--alone", "--strict", "A4=1"],
+        " LDW .D1 *A4,A5\n NOP 4\n B .S2 B3\n NOP 5\nL: LDH .D1 *A4,A5\n",
+        "cycles 1\nexit end\nA4 00000001\nfault 5\n",
+        "line 5: LDH reads 2 bytes at 0x1, no multiple of 2\n",
+        7,
+    ),
+    // without `--strict` nothing is told
     (
         &["serial", "--explain", "A4=1"],
         "LDH *A4,A5\n",
@@ -208,11 +237,11 @@ const RUNS: [(&[&str], &str, &str, &str, u8); 41] = [
         0,
     ),
     (
-        &["sim", "--packets", "--strict", "A4=1"],
-        " LDH .D1 *A4,A5\n NOP 4\n",
-        "blocks 1\ncycles 5\nexit end\nA4 00000001\nfault 1\n",
+        &["exec", "--explain", "A4=1"],
+        " LDH .D1 *A4,A5\n",
+        "cycles 1\nexit end\nA4 00000001\nfault 1\n",
         "",
-        7,
+        0,
     ),
     (
         &["run", "--strict", "--blocks", "2"],

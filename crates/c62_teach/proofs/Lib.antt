@@ -3,3 +3,5 @@ pub mod Listed
 pub mod Refusals
 pub mod Reported
 pub mod Values
+pub mod Strict
+pub mod Asked

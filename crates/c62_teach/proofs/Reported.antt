@@ -1,23 +1,34 @@
 -- The accesses that are told are of the lines that a report names.
 use Rattle.std.proofs.Common.{◌≡◌, ◌∙◌, ◌⊎◌, inl, inr, ℕ, ◌<◌, ◌≤◌, List, [], ◌∷◌, length, refl, sym, ap, subst, arith}
-use Rattle.std.specs.Prelude.{◌↔◌, All, Contains, fold, slice_index, true}
+use Rattle.std.specs.Prelude.{◌↔◌, All, Contains, IsTrue, fold, slice_index, true}
 use Rattle.std.proofs.lemmas.Bool.{cases_lt}
 use Rattle.std.proofs.lemmas.List.{get_or_past}
 use Rattle.c62_op.specs.declared.register.Reg.{Reg}
 use Rattle.c62_read.specs.Block.{Serial}
+use Rattle.c62_read.specs.Program.{Name}
 use Rattle.c62_serial.specs.declared.chain.Chain.{Chain}
 use Rattle.c62_serial.specs.State.{IsSound, IsZero, Machine, byte_in, index_of, word_in}
 use Rattle.c62_serial.specs.Chain.{RunsProgram}
 use Rattle.c62_serial.specs.Laws.{HoldsTheSame}
 use Rattle.c62_serial.proofs.MachineLemmas.{same_machine}
+use Rattle.c62_packet.specs.Packed.{Packed}
+use Rattle.c62_pipe.specs.Chain.{RunsPackets}
+use Rattle.c62_flight.specs.Text.{Text as FlightText}
+use Rattle.c62_flight.specs.Flight.{Flies}
+use Rattle.c62_faulted.specs.declared.fault.Fault.{Fault}
+use Rattle.c62_faulted.specs.Faulted.{has_line}
 use Rattle.c62_faulted.proofs.LineLemmas.{tells_lines}
+use Rattle.c62_faulted_packets.proofs.Lines.{tells_flight_lines, tells_packet_lines}
 use Rattle.c62_command.specs.declared.command.Course.{Course}
+use Rattle.c62_command.specs.declared.flight.FlightCourse.{FlightCourse}
 use Rattle.c62_command.specs.declared.setting.Setting.{Setting}
 use Rattle.c62_command.specs.declared.setting.Setting.TheVariants.{Byte, Dump, Half, Print, Register, Word}
-use Rattle.c62_answer.specs.Run.{IsOpening, with_setting, with_settings}
-use Rattle.c62_answer.specs.Texts.{SaysProgram}
+use Rattle.c62_answer.specs.declared.outcome.Outcome.{Outcome}
+use Rattle.c62_answer.specs.Run.{IsFlown, IsOpening, IsPacketReport, with_setting, with_settings}
+use Rattle.c62_answer.specs.Texts.{IsNoProgram, SaysProgram}
 use Rattle.c62_answer.proofs.OneText.{one_program}
-use Rattle.c62_teach.specs.Faulted.{TellsReported, TellsRun, TellsStrict}
+use Rattle.c62_teach.specs.Faulted.{TellsFlight, TellsIf, TellsPackets, TellsProgram, TellsReported, TellsRun}
+use Rattle.c62_teach.specs.Faulted.{TellsRunBy, TellsStrict}
 
 -- ---- one opening
 
@@ -62,23 +73,64 @@ none_faulted settings opening begin =
 
 -- ---- the lines
 
+-- where the faults that are found have the lines that a run leaves
+told_by : (Finds : Machine → List Fault → Type 0) (settings : List Setting) (more : List ℕ) (opening final : Machine)
+    → (tells : TellsRunBy Finds settings more) → IsOpening settings opening
+    → (IsSound tells.opening → tells.opening.faults ≡ [] → tells.opening ≡ opening
+    → (line : ℕ) → IsTrue (has_line line tells.faults) ↔ Contains final.faults line)
+    → TellsReported more final
+told_by Finds settings more opening final tells begin lines = record {
+  faults = tells.faults;
+  told = tells.told;
+  lines = lines tells.begin.sound (none_faulted settings tells.opening tells.begin)
+      (one_opening settings tells.opening opening tells.begin begin);
+}
+
 pub told_lines : (program : List Serial) (settings : List Setting) (course : Course) (more : List ℕ)
     (opening final : Machine) (chain : Chain)
     → TellsRun program settings course more → IsOpening settings opening
     → RunsProgram program opening course.blocks chain final → TellsReported more final
 told_lines program settings course more opening final chain tells begin runs =
-    let same : opening ≡ tells.opening = one_opening settings opening tells.opening begin tells.begin in
-    let run : RunsProgram program tells.opening course.blocks chain final =
-    subst (λ (machine : Machine). RunsProgram program machine course.blocks chain final) same runs in
-    record {
-      faults = tells.faults;
-      told = tells.told;
-      lines = tells_lines program tells.opening course.blocks tells.faults chain final tells.begin.sound
-          (none_faulted settings tells.opening tells.begin) tells.found run;
-    }
+    told_by _ settings more opening final tells begin (λ sound none same.
+    tells_lines program tells.opening course.blocks tells.faults chain final sound none tells.found
+    (subst (λ (machine : Machine). RunsProgram program machine course.blocks chain final) (sym same) runs))
 
--- a text says one program
-pub strict_by : (settings : List Setting) (course : Course) (text more : List ℕ) (program : List Serial)
-    → SaysProgram text program → TellsRun program settings course more → TellsStrict settings course text more
-strict_by settings course text more program says tells strict other is =
-    subst (λ p. TellsRun p settings course more) (one_program text program other says is) tells
+is_program : (text : List ℕ) (program : List Serial) (message : List ℕ) → SaysProgram text program
+    → IsNoProgram text message → ⊥
+is_program text program message says none = rw says at none
+
+-- behind a strict run of a text stands what is told of the program that it says
+pub strict_lines : (program : List Serial) (settings : List Setting) (course : Course) (text more : List ℕ)
+    (opening final : Machine) (chain : Chain)
+    → course.strict ≡ true → TellsStrict settings course text more → SaysProgram text program
+    → IsOpening settings opening → RunsProgram program opening course.blocks chain final → TellsReported more final
+strict_lines program settings course text more opening final chain strict tells says begin runs =
+    either (subst (λ b. TellsIf b (TellsProgram settings course text more) more) strict tells)
+  where
+    either : TellsProgram settings course text more → TellsReported more final
+    either (inl (other, is, told)) =
+        told_lines program settings course more opening final chain
+        (subst (λ p. TellsRun p settings course more) (one_program text other program is says) told) begin runs
+    either (inr (message, none, nothing)) = absurd (is_program text program message says none)
+
+pub packet_lines : (packets : List Packed) (settings : List Setting) (course : Course) (outcome : Outcome)
+    (answer more : List ℕ)
+    → TellsPackets packets settings course more → (report : IsPacketReport packets settings course outcome answer)
+    → TellsReported more report.final
+packet_lines packets settings course outcome answer more tells report =
+    told_by _ settings more report.opening report.final tells report.begin (λ sound none same.
+    tells_packet_lines packets tells.opening course.blocks tells.faults report.chain report.cycles report.final sound
+    none tells.found
+    (subst (λ (machine : Machine). RunsPackets packets machine course.blocks report.chain report.cycles report.final)
+    (sym same) report.run))
+
+pub flight_lines : (flying : FlightText) (labels : List (Name × ℕ)) (first : ℕ) (settings : List Setting)
+    (course : FlightCourse) (outcome : Outcome) (answer more : List ℕ)
+    → TellsFlight flying first settings course more
+    → (report : IsFlown flying labels first settings course outcome answer) → TellsReported more report.final
+flight_lines flying labels first settings course outcome answer more tells report =
+    told_by _ settings more report.opening report.final tells report.begin (λ sound none same.
+    tells_flight_lines flying first course.cycles tells.opening tells.faults report.stop report.cycles report.final none
+    tells.found
+    (subst (λ (machine : Machine). Flies flying first course.cycles machine report.stop report.cycles report.final)
+    (sym same) report.flies))

@@ -1,36 +1,104 @@
 -- What is told of the accesses that fault in a strict run (docs/REPORT.md, "Strict runs").
-use Rattle.std.specs.Prelude.{◌≡◌, ◌↔◌, ℕ, true, List, [], Contains, IsTrue}
+use Rattle.std.specs.Prelude.{◌≡◌, ◌≢◌, ◌↔◌, ◌⊎◌, ℕ, Bool, true, false, List, [], Contains, Option, IsTrue}
 use Rattle.std.specs.List.{flat_map}
+use Rattle.clap.specs.Words.{Text}
 use Rattle.c62_read.specs.Block.{Serial}
+use Rattle.c62_read.specs.Program.{Name}
 use Rattle.c62_serial.specs.State.{Machine}
+use Rattle.c62_packet.specs.Packed.{Packed}
+use Rattle.c62_adopt.specs.Answer.{IsCoded, code_in, code_read}
+use Rattle.c62_flight.specs.Text.{Text as FlightText}
+use Rattle.c62_rows.specs.declared.fault.RowsFault.{RowsFault}
+use Rattle.c62_rows.specs.declared.fault.RowsFault.TheVariants.{Memory as NoPlace}
+use Rattle.c62_rows.specs.Text.{IsTextFrom, RefusesFrom}
+use Rattle.c62_reach.specs.Taken.{IsTaken}
 use Rattle.c62_faulted.specs.declared.fault.Fault.{Fault}
 use Rattle.c62_faulted.specs.Faulted.{FindsFaults, has_line}
 use Rattle.c62_faulted.specs.Sentence.{fault_text}
+use Rattle.c62_faulted_packets.specs.Chain.{FindsPacketFaults}
+use Rattle.c62_faulted_packets.specs.Flight.{FindsFlightFaults}
 use Rattle.c62_command.specs.declared.setting.Setting.{Setting}
 use Rattle.c62_command.specs.declared.command.Course.{Course}
+use Rattle.c62_command.specs.declared.command.Form.{Form}
 use Rattle.c62_command.specs.declared.command.Packing.{Packing}
-use Rattle.c62_command.specs.CommandLine.{Ask, SerialReport, PacketReport}
+use Rattle.c62_command.specs.declared.flight.FlightCourse.{FlightCourse}
+use Rattle.c62_command.specs.CommandLine.{Ask, SerialReport, PacketReport, StandingReport, FlightReport, Reaching}
 use Rattle.c62_answer.specs.declared.outcome.Outcome.{Outcome}
-use Rattle.c62_answer.specs.Texts.{SaysProgram}
-use Rattle.c62_answer.specs.Run.{IsOpening, IsRunReport, IsSerialReport}
+use Rattle.c62_answer.specs.Texts.{IsNoProgram, IsUncoded, IsUnreached, SaysNoPackets, SaysPackets, SaysProgram}
+use Rattle.c62_answer.specs.Run.{IsFlown, IsOpening, IsPacketReport, IsRunReport, IsSerialReport}
 
--- of a program's serial run on this course, from zeros with these settings, a line for each line's first fault
-pub record TellsRun (program : List Serial) (settings : List Setting) (course : Course) (more : List ℕ) : Type 0 where
+-- ---- runs
+
+-- Of a run from zeros with these settings that finds its faults so: a line for each line's first fault.
+pub record TellsRunBy (Finds : Machine → List Fault → Type 0) (settings : List Setting) (more : List ℕ) : Type 0 where
   pub opening : Machine
   pub begin : IsOpening settings opening
   pub faults : List Fault
-  pub found : FindsFaults program opening course.blocks faults
+  pub found : Finds opening faults
   pub told : more ≡ flat_map fault_text faults
 
--- so it is with a strict run of what a text says
-abbrev pub TellsStrict : List Setting → Course → (text more : List ℕ) → Type 0
-TellsStrict settings course text more =
-    course.strict ≡ true → (program : List Serial) → SaysProgram text program → TellsRun program settings course more
+-- of a program's serial run on this course
+abbrev pub TellsRun : List Serial → List Setting → Course → (more : List ℕ) → Type 0
+TellsRun program settings course more = TellsRunBy (λ opening faults. FindsFaults program opening course.blocks faults) settings more
 
--- What is told of the faults of what is asked of a text. Of packets, which have no serial run, nothing is told.
+-- of such a run of packets as they stand
+abbrev pub TellsPackets : List Packed → List Setting → Course → (more : List ℕ) → Type 0
+TellsPackets packets settings course more = TellsRunBy (λ opening faults. FindsPacketFaults packets opening course.blocks faults) settings more
+
+-- and of one of a text of packets in flight, from this row on
+abbrev pub TellsFlight : FlightText → (first : ℕ) → List Setting → FlightCourse → (more : List ℕ) → Type 0
+TellsFlight flying first settings course more = TellsRunBy (λ opening faults. FindsFlightFaults flying first course.cycles opening faults) settings more
+
+-- ---- texts
+
+-- the text says a program, of whose run this is told, or none, and nothing is told
+abbrev pub TellsProgram : List Setting → Course → (text more : List ℕ) → Type 0
+TellsProgram settings course text more =
+    ((program : List Serial) × SaysProgram text program × TellsRun program settings course more)
+    ⊎ ((message : List ℕ) × IsNoProgram text message × (more ≡ []))
+
+-- so it is with packets of this form
+abbrev pub TellsStanding : Form → List Setting → Course → (text more : List ℕ) → Type 0
+TellsStanding form settings course text more =
+    ((packets : List Packed) × SaysPackets form text packets × TellsPackets packets settings course more)
+    ⊎ ((message : List ℕ) × SaysNoPackets form text message × (more ≡ []))
+
+-- these lines of code are rows, of whose run in flight this is told, or they are refused, and nothing is told
+abbrev pub TellsRows : Option Text → List Setting → FlightCourse → (code more : List ℕ) → Type 0
+TellsRows from settings course code more =
+    ((flying : FlightText) × (first : ℕ) × IsTextFrom code from flying first × TellsFlight flying first settings course more)
+    ⊎ ((fault : RowsFault) × (fault ≢ NoPlace) × RefusesFrom code from fault × (more ≡ []))
+
+-- the text has such code, or none, and nothing is told
+abbrev pub TellsCode : Option Text → List Setting → FlightCourse → (text more : List ℕ) → Type 0
+TellsCode from settings course text more =
+    (IsCoded text × TellsRows from settings course (code_in (code_read text)) more)
+    ⊎ ((message : List ℕ) × IsUncoded text message × (more ≡ []))
+
+-- so it is with what is taken of the text from this label on
+abbrev pub TellsTaken : (name : Text) → Option Text → List Setting → FlightCourse → (text more : List ℕ) → Type 0
+TellsTaken name from settings course text more =
+    ((taken : List ℕ) × IsTaken name text taken × TellsCode from settings course taken more)
+    ⊎ ((message : List ℕ) × IsUnreached name text message × (more ≡ []))
+
+-- ---- what is asked
+
+-- of a strict run this is told, and of another nothing
+abbrev pub TellsIf : (strict : Bool) → Type 0 → (more : List ℕ) → Type 0
+TellsIf false Told more = more ≡ []
+TellsIf true Told more = Told
+
+abbrev pub TellsStrict : List Setting → Course → (text more : List ℕ) → Type 0
+TellsStrict settings course text more = TellsIf course.strict (TellsProgram settings course text more) more
+
+-- What is told of the faults of what is asked of a text. Packets of a serial text leave what it leaves, so they have its faults.
 abbrev pub TellsFaults : Ask → (text more : List ℕ) → Type 0
 TellsFaults (SerialReport course settings) text more = TellsStrict settings course text more
 TellsFaults (PacketReport packing course settings) text more = TellsStrict settings course text more
+TellsFaults (StandingReport form course settings) text more = TellsIf course.strict (TellsStanding form settings course text more) more
+TellsFaults (FlightReport course from settings) text more = TellsIf course.strict (TellsCode from settings course text more) more
+TellsFaults (Reaching name (FlightReport course from settings)) text more =
+    TellsIf course.strict (TellsTaken name from settings course text more) more
 TellsFaults ask text more = more ≡ []
 
 -- ---- the law
@@ -47,8 +115,18 @@ TellsItsReport settings course outcome text answer more =
     course.strict ≡ true → TellsStrict settings course text more
     → (report : IsSerialReport settings course outcome text answer) → TellsReported more report.reported.final
 
--- and of a strict run of packets
+-- and of a strict run of packets of serial text
 abbrev pub TellsPackedReport : Packing → List Setting → Course → Outcome → (text answer more : List ℕ) → Type 0
 TellsPackedReport packing settings course outcome text answer more =
     course.strict ≡ true → TellsStrict settings course text more
     → (report : IsRunReport packing settings course outcome text answer) → TellsReported more report.reported.reported.final
+
+-- so it is with what is told of packets as they stand, and their report
+abbrev pub TellsPacketReport : List Packed → List Setting → Course → Outcome → (answer more : List ℕ) → Type 0
+TellsPacketReport packets settings course outcome answer more =
+    TellsPackets packets settings course more → (report : IsPacketReport packets settings course outcome answer) → TellsReported more report.final
+
+-- and of packets in flight
+abbrev pub TellsFlightReport : FlightText → List (Name × ℕ) → (first : ℕ) → List Setting → FlightCourse → Outcome → (answer more : List ℕ) → Type 0
+TellsFlightReport flying labels first settings course outcome answer more =
+    TellsFlight flying first settings course more → (report : IsFlown flying labels first settings course outcome answer) → TellsReported more report.final

@@ -4,7 +4,7 @@ use Rattle.c62_line.specs.declared.fault.ReadFault.{ReadFault}
 use Rattle.c62_read.specs.Program.{Refusal, program_in}
 use Rattle.c62_lint.specs.Faults.{refusal_of}
 use Rattle.c62_explain.specs.Picture.{Explains}
-use Rattle.c62_command.specs.CommandLine.{Ask, Listing, Picture, SerialReport, PacketReport}
+use Rattle.c62_command.specs.CommandLine.{Ask, Listing, Picture, SerialReport, PacketReport, LoopListing, LoopPicture, LoopReport}
 
 -- this explains the fault that a serial text is refused for
 pub record ExplainsRefusal (name text : List ℕ) (refusal : Refusal) (more : List ℕ) : Type 0 where
@@ -21,4 +21,7 @@ Teaches (Listing packing) name listing text more = TeachesSerial name text more
 Teaches (Picture showing) name listing text more = TeachesSerial name text more
 Teaches (SerialReport blocks settings) name listing text more = TeachesSerial name text more
 Teaches (PacketReport packing blocks settings) name listing text more = TeachesSerial name text more
+Teaches (LoopListing verbose packing trips apart) name listing text more = TeachesSerial name text more
+Teaches (LoopPicture packing trips apart) name listing text more = TeachesSerial name text more
+Teaches (LoopReport verbose packing trips apart course settings) name listing text more = TeachesSerial name text more
 Teaches ask name listing text more = Unit {0}

@@ -87,9 +87,10 @@ plain_words words = flat_map plain_word words
 
 -- ---- `--strict`
 
--- the commands that run serial text
-abbrev pub runs_serial : Text → Bool
-runs_serial command = bytes_eq command (codes "run") || bytes_eq command (codes "serial")
+-- the commands that run a text
+abbrev pub makes_run : Text → Bool
+makes_run command =
+    bytes_eq command (codes "run") || bytes_eq command (codes "serial") || bytes_eq command (codes "sim") || bytes_eq command (codes "exec")
 
 abbrev pub asks_strict : List Text → Bool
 asks_strict words = list_any (λ word. bytes_eq word (codes "--strict")) words
@@ -97,4 +98,4 @@ asks_strict words = list_any (λ word. bytes_eq word (codes "--strict")) words
 -- one of these, and `--strict` behind it
 abbrev pub is_strict : List Text → Bool
 is_strict [] = false
-is_strict (command ∷ words) = runs_serial command && asks_strict words
+is_strict (command ∷ words) = makes_run command && asks_strict words

@@ -58,6 +58,9 @@ pub fn taught(
         Request::Pack(_) | Request::Show(_) | Request::Run(_, _) | Request::Serial(_) => {
             serial_taught(alloc, name, text)
         }
+        Request::PackLoops(_) | Request::ShowLoops(_) | Request::RunLoops(_, _) => {
+            serial_taught(alloc, name, text)
+        }
         Request::Sim(form, _) => form_taught(alloc, *form, name, text),
         Request::ShowListing(_) => form_taught(alloc, Form::Listed, name, text),
         Request::Exec(start) => flight_taught(alloc, name, text, start),

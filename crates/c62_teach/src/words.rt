@@ -3,7 +3,7 @@
 ghost use Rattle.std.specs.Prelude.{◌≡◌, ◌≤◌, IfOk, IfSome, OnOk, ◌++◌, codes, map, string_bytes};
 ghost use Rattle.std.specs.List.{list_any};
 ghost use Rattle.std.specs.Str.{bytes_eq};
-ghost use Rattle.c62_teach.specs.Words.{asks_strict, behind_first, changed, explains, is_answered, is_explained, is_lint, kind_of, linting_by, linting_of, most_by, most_of, is_strict, plain_word, plain_words, runs_serial};
+ghost use Rattle.c62_teach.specs.Words.{asks_strict, behind_first, changed, explains, is_answered, is_explained, is_lint, kind_of, linting_by, linting_of, most_by, most_of, is_strict, plain_word, plain_words, makes_run};
 
 use c62_token::number::number;
 use std::alloc::{AllocError, Global};
@@ -167,11 +167,11 @@ pub fn is_explained(words: &[String]) -> bool
     }
 }
 
-/// Whether serial text is run for this command.
-fn runs_serial(command: &str) -> bool
-    ensures { result ≡ runs_serial command.now }
+/// Whether a text is run for this command.
+fn makes_run(command: &str) -> bool
+    ensures { result ≡ makes_run command.now }
 {
-    command == "run" || command == "serial"
+    command == "run" || command == "serial" || command == "sim" || command == "exec"
 }
 
 /// Whether a word is `--strict`.
@@ -187,13 +187,13 @@ fn asks_strict(words: &[String]) -> bool
     has_strict(words)
 }
 
-/// Whether the words ask for a strict run of serial text.
+/// Whether the words ask for a strict run.
 pub fn is_strict(words: &[String]) -> bool
     ensures { result ≡ is_strict (map string_bytes words.now) }
 {
     match words {
         [] => false,
-        [command, rest @ ..] => runs_serial(command.as_str()) && asks_strict(rest),
+        [command, rest @ ..] => makes_run(command.as_str()) && asks_strict(rest),
     }
 }
 

@@ -1,0 +1,13 @@
+-- What is told where a run in flight is asked for.
+use Rattle.std.proofs.Common.{◌≡◌, Bool, true, ℕ, List, Option, Some}
+use Rattle.clap.specs.Words.{Text}
+use Rattle.c62_command.specs.declared.setting.Setting.{Setting}
+use Rattle.c62_command.specs.declared.flight.FlightCourse.{FlightCourse}
+use Rattle.c62_command.specs.CommandLine.{flight_asked}
+use Rattle.c62_teach.specs.Faulted.{TellsFaults, TellsTaken}
+
+pub taken_asked : (alone : Bool) (named : Option Text) (name : Text) (settings : List Setting) (course : FlightCourse)
+    (text more : List ℕ)
+    → alone ≡ true → named ≡ Some name → course.strict ≡ true → TellsTaken name (Some name) settings course text more
+    → TellsFaults (flight_asked alone course named settings) text more
+taken_asked alone named name settings course text more one is strict tells = rw (one, is, strict) tells
