@@ -198,34 +198,43 @@ fault is; --explain behind a command says what is wrong with its text.
         "Reads serial text and writes its listing
 
 Usage: c62 pack [--turns] [--eject <N>] [--shortest] [--search <N>] [-o <FILE>] [FILE]
+       c62 pack --pipeline [--trips <L=N>]... [--apart <REG,REG,..>] [--verbose] [-o <FILE>] [FILE]
 
 Options:
-      --turns       Packs on one thread, one side after the other
-      --eject <N>   Ejects at most N placed instructions of a block, 0 to 1000; 0 where none is given
-      --shortest    Takes the shortest schedule of each block that further lists find
-      --search <N>  The same, and searches by at most N choices for each block, 0 to 10000
-  -h, --help        Print help
+      --turns               Packs on one thread, one side after the other
+      --eject <N>           Ejects at most N placed instructions of a block, 0 to 1000; 0 where none is given
+      --shortest            Takes the shortest schedule of each block that further lists find
+      --search <N>          The same, and searches by at most N choices for each block, 0 to 10000
+      --pipeline            Pipelines the loops of which trips enough are promised
+      --trips <L=N>         A promise: the loop of label L is entered with at least N trips
+      --apart <REG,REG,..>  A promise: accesses from two of these registers never touch one byte in two iterations
+      --verbose             With --pipeline: tells of each loop how it is pipelined, or why it isn't
+  -h, --help                Print help
 ",
-        "c62 pack kernel.s",
+        "c62 pack --pipeline --trips LOOP=8 kernel.s",
     ),
     (
         &["show", "--help"],
         "Packs serial text and shows each block's schedule, and how short one can be
 
 Usage: c62 show [--why] [--registers] [--summary] [--turns] [--eject <N>] [--shortest] [--search <N>] [-o <FILE>] [FILE]
+       c62 show --pipeline [--trips <L=N>]... [--apart <REG,REG,..>] [-o <FILE>] [FILE]
        c62 show --listing|--packets [--why] [--registers] [--summary] [-o <FILE>] [FILE]
 
 Options:
-      --turns       Packs on one thread, one side after the other
-      --eject <N>   Ejects at most N placed instructions of a block, 0 to 1000; 0 where none is given
-      --shortest    Takes the shortest schedule of each block that further lists find
-      --search <N>  The same, and searches by at most N choices for each block, 0 to 10000
-      --listing     Reads a listing, and shows the schedule that stands there
-      --packets     Reads packets as they are written, and shows the schedule that stands there
-      --why         Tells why each instruction isn't issued a cycle earlier, and its slack
-      --registers   Tells how many registers of each side are live at most, and which are free
-      --summary     Shows of each block its length alone, and how short one can be
-  -h, --help        Print help
+      --turns               Packs on one thread, one side after the other
+      --eject <N>           Ejects at most N placed instructions of a block, 0 to 1000; 0 where none is given
+      --shortest            Takes the shortest schedule of each block that further lists find
+      --search <N>          The same, and searches by at most N choices for each block, 0 to 10000
+      --pipeline            Pipelines the loops of which trips enough are promised
+      --trips <L=N>         A promise: the loop of label L is entered with at least N trips
+      --apart <REG,REG,..>  A promise: accesses from two of these registers never touch one byte in two iterations
+      --listing             Reads a listing, and shows the schedule that stands there
+      --packets             Reads packets as they are written, and shows the schedule that stands there
+      --why                 Tells why each instruction isn't issued a cycle earlier, and its slack
+      --registers           Tells how many registers of each side are live at most, and which are free
+      --summary             Shows of each block its length alone, and how short one can be
+  -h, --help                Print help
 ",
         "c62 show --why kernel.s",
     ),
@@ -234,19 +243,25 @@ Options:
         "Packs serial text, runs the packets and reports the end
 
 Usage: c62 run [--turns] [--eject <N>] [--shortest] [--search <N>] [--blocks <N>] [--profile] [--strict] [-o <FILE>] [FILE] [SETTING]...
+       c62 run --pipeline [--trips <L=N>]... [--apart <REG,REG,..>] [--verbose] [--cycles <N>] [--profile] [--strict] [-o <FILE>] [FILE] [SETTING]...
 
 Arguments:
   [SETTING]...  REG=NUMBER sets a register, @ADDRESS=NUMBER,.. words of memory; with :h or :b halves or bytes
 
 Options:
-      --turns       Packs on one thread, one side after the other
-      --eject <N>   Ejects at most N placed instructions of a block, 0 to 1000; 0 where none is given
-      --shortest    Takes the shortest schedule of each block that further lists find
-      --search <N>  The same, and searches by at most N choices for each block, 0 to 10000
-      --blocks <N>  Runs at most N blocks, 1 to 1000000; 1000 where none is given
-      --profile     Adds a table of how often each block was run, and what it took
-      --strict      Ends with status 7 where an access faults, and else with 6 at the limit
-  -h, --help        Print help
+      --turns               Packs on one thread, one side after the other
+      --eject <N>           Ejects at most N placed instructions of a block, 0 to 1000; 0 where none is given
+      --shortest            Takes the shortest schedule of each block that further lists find
+      --search <N>          The same, and searches by at most N choices for each block, 0 to 10000
+      --pipeline            Pipelines the loops of which trips enough are promised
+      --trips <L=N>         A promise: the loop of label L is entered with at least N trips
+      --apart <REG,REG,..>  A promise: accesses from two of these registers never touch one byte in two iterations
+      --verbose             With --pipeline: tells of each loop how it is pipelined, or why it isn't
+      --cycles <N>          Runs at most N cycles, 1 to 1000000000; 1000000 where none is given
+      --blocks <N>          Runs at most N blocks, 1 to 1000000; 1000 where none is given
+      --profile             Adds a table of how often each block was run, and what it took
+      --strict              Ends with status 7 where an access faults, and else with 6 at the limit
+  -h, --help                Print help
 ",
         "c62 run kernel.s A4=8 @8=99",
     ),
