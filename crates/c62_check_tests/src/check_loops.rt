@@ -265,8 +265,7 @@ const OWN_EARLY: &[(usize, &str)] = &[
 ];
 
 /// The sum counted by 2, and its block's packets.
-const BY_TWO: &str =
-    "L: LDW .D1 *A4++,A2\n ADD .L1 A2,A3,A3\n SUB .S1 A1,2,A1\n [A1] B .S2 L\n";
+const BY_TWO: &str = "L: LDW .D1 *A4++,A2\n ADD .L1 A2,A3,A3\n SUB .S1 A1,2,A1\n [A1] B .S2 L\n";
 
 const OWN_BY_TWO: &[(usize, &str)] = &[
     (1, "L: SUB .S1 A1,2,A1 || LDW .D1 *A4++,A2"),
