@@ -162,7 +162,7 @@ answered (PacketsPicture showing) Done all text answer read is = record {
   adopted = adopted_same false text all is.packets 0 (code_all all text read) is.adopted;
   drawn = is.drawn;
 }
-answered (SerialReport course settings) outcome all text answer read is = record {
+answered (SerialReport course settings apart) outcome all text answer read is = record {
   program = is.program;
   says = sym (program_all all text read) ∙ is.says;
   reported = is.reported;
@@ -252,7 +252,7 @@ refused_all : (ask : Ask) (all text message : List ℕ) → text ≡ take (limit
     → IsRefusedText ask text message → IsRefusedText ask all message
 refused_all (Listing packing) all text message read is = no_program_all all text message read is
 refused_all (Picture showing) all text message read is = no_program_all all text message read is
-refused_all (SerialReport course settings) all text message read is = no_program_all all text message read is
+refused_all (SerialReport course settings apart) all text message read is = no_program_all all text message read is
 refused_all (PacketReport packing course settings) all text message read is = no_program_all all text message read is
 refused_all (StandingReport Listed course settings) all text message read is = no_listing_all all text message read is
 refused_all (StandingReport Written course settings) all text message read is = no_packets_all false all text message

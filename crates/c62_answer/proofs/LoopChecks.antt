@@ -26,6 +26,7 @@ module _ (all : List ℕ) (n : ℕ) (enough : most_parted + 1 ≤ n) where
         packets = is.packets;
         flies = flying_same is.listing (is.listing ++ drop n all) is.packets
             (same_code all n enough is.text is.listing is.parted.cut short) is.flies;
+        plain = is.plain;
         told = is.told;
         does = is.does;
       }

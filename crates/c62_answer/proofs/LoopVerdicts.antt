@@ -119,12 +119,12 @@ module _ (trips : List (Name × ℕ)) (apart : List Reg) (input text listing : L
 
 -- both were read, and this is told of them
 pub loops_told : (trips : List (Name × ℕ)) (apart : List Reg) (input text listing answer : List ℕ)
-    (program : List Serial) (read : RowsText) (same : Bool) (outcome : Outcome)
+    (program : List Serial) (read : RowsText) (same plain : Bool) (outcome : Outcome)
     → IsParted input text listing → SaysProgram text program → first_loopless program trips ≡ None
     → GivesRowsPart listing (Ok read)
-    → AreLoopsTold trips apart program (text_of read.rows) answer same → outcome ≡ outcome_of same
+    → AreLoopsTold trips apart program (text_of read.rows) answer same plain → outcome ≡ outcome_of same
     → IsAnswer (LoopVerdicts trips apart) outcome input answer
-loops_told trips apart input text listing answer program read same outcome parted says named flies told ends =
+loops_told trips apart input text listing answer program read same plain outcome parted says named flies told ends =
     subst (λ (o : Outcome). IsAnswer (LoopVerdicts trips apart) o input answer) (sym ends) (ended same (record {
       text = text;
       listing = listing;
@@ -134,9 +134,10 @@ loops_told trips apart input text listing answer program read same outcome parte
       named = named;
       packets = text_of read.rows;
       flies = flies;
+      plain = plain;
       told = told;
-      does = λ all. loops_do_the_same trips apart program (text_of read.rows) answer
-          (subst (λ (b : Bool). AreLoopsTold trips apart program (text_of read.rows) answer b) all told);
+      does = λ all. loops_do_the_same trips apart program (text_of read.rows) answer plain
+          (subst (λ (b : Bool). AreLoopsTold trips apart program (text_of read.rows) answer b plain) all told);
     }))
   where
     ended : (b : Bool) → IsLoopCheck trips apart input b answer

@@ -10,7 +10,7 @@ use Rattle.c62_report.specs.Flight.{flight_report}
 use Rattle.c62_answer.specs.Memory.{AnswersEndWithMemory}
 
 pub ends_with_memory : AnswersEndWithMemory
-ends_with_memory (SerialReport course settings) outcome text answer is =
+ends_with_memory (SerialReport course settings apart) outcome text answer is =
     let told = is.reported in
     (serial_report told.chain told.final ++ prints told.final settings ++ told.table, told.final, told.report)
 ends_with_memory (PacketReport packing course settings) outcome text answer is =

@@ -10,7 +10,7 @@ use Rattle.c62_rows.specs.Text.{IsText}
 use Rattle.c62_adopt.specs.Answer.{IsCoded, code_in, code_read}
 use Rattle.c62_check_loops.specs.Granted.{first_loopless}
 use Rattle.c62_check_loops.specs.Told.{AreLoopsTold}
-use Rattle.c62_check_loops.specs.Laws.{AreDone}
+use Rattle.c62_check_loops.specs.Laws.{AreDone, naming_of}
 use Rattle.c62_answer.specs.Message.{fault_message, no_listing, no_loop, of_listing, of_text}
 use Rattle.c62_answer.specs.Parting.{IsParted}
 use Rattle.c62_answer.specs.Texts.{SaysProgram, IsNoFlight}
@@ -23,7 +23,8 @@ pub record IsFlying (text : List ℕ) (flying : Text) : Type 0 where
   pub is_text : IsText (code_in (code_read text)) flying labels
 
 -- The input is a text and packets, and this is told of the text's loops, and whether all is the same. Where it is, each loop of the text
--- is done by the packets, from as many trips on as are promised of it, and no block is left that belongs to none.
+-- is done by the packets, from as many trips on as are promised of it, but for what the answer names, if it is so of any loop, and no block is
+-- left that belongs to none.
 pub record IsLoopCheck (trips : List (Name × ℕ)) (apart : List Reg) (input : List ℕ) (same : Bool) (answer : List ℕ) : Type 0 where
   pub text : List ℕ
   pub listing : List ℕ
@@ -33,8 +34,9 @@ pub record IsLoopCheck (trips : List (Name × ℕ)) (apart : List Reg) (input : 
   pub named : first_loopless program trips ≡ None
   pub packets : Text
   pub flies : IsFlying listing packets
-  pub told : AreLoopsTold trips apart program packets answer same
-  pub does : same ≡ true → AreDone trips apart program packets
+  pub plain : Bool
+  pub told : AreLoopsTold trips apart program packets answer same plain
+  pub does : same ≡ true → AreDone trips apart program packets (naming_of plain answer)
 
 -- ---- faults
 

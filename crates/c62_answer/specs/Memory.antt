@@ -13,7 +13,7 @@ EndsWithMemory settings answer = (report : List ℕ) × (final : Machine) × (an
 
 -- so it is with the answer of a run
 abbrev pub HasItsMemory : Ask → List ℕ → Type 0
-HasItsMemory (SerialReport course settings) answer = EndsWithMemory settings answer
+HasItsMemory (SerialReport course settings apart) answer = EndsWithMemory settings answer
 HasItsMemory (PacketReport packing course settings) answer = EndsWithMemory settings answer
 HasItsMemory (StandingReport form course settings) answer = EndsWithMemory settings answer
 HasItsMemory (FlightReport course from settings) answer = EndsWithMemory settings answer

@@ -26,7 +26,7 @@ use Rattle.c62_line.specs.declared.fault.Cause.TheVariants.{Memory as OutOfStore
 use Rattle.c62_line.specs.declared.fault.ReadFault.{ReadFault}
 use Rattle.c62_read.specs.Block.{Serial}
 use Rattle.c62_read.specs.Program.{Name, most_bytes}
-use Rattle.c62_serial.specs.State.{Machine, IsSound, IsZero, with_word}
+use Rattle.c62_serial.specs.State.{Machine, IsSound, IsZero, with_word, with_base}
 use Rattle.c62_serial.specs.Memory.{with_bytes}
 use Rattle.c62_serial.specs.declared.chain.Chain.{Chain}
 use Rattle.c62_serial.specs.declared.chain.End.{End}
@@ -222,9 +222,10 @@ pub record IsShownText (showing : Showing) (text answer : List ℕ) : Type 0 whe
 -- the machine after a setting
 abbrev pub with_setting : Machine → Given → Machine
 with_setting machine (given.Register reg value) = with_word reg value machine
-with_setting machine (given.Byte address value) = with_bytes address 1 value machine
-with_setting machine (given.Half address value) = with_bytes address 2 value machine
-with_setting machine (given.Word address value) = with_bytes address 4 value machine
+with_setting machine (given.Byte place value) = with_bytes place 1 value machine
+with_setting machine (given.Half place value) = with_bytes place 2 value machine
+with_setting machine (given.Word place value) = with_bytes place 4 value machine
+with_setting machine (given.Base base) = with_base base machine
 with_setting machine (given.Print print) = machine
 with_setting machine (given.Dump dump) = machine
 
@@ -377,7 +378,7 @@ IsAnswer (Listing packing) Done text answer = IsPackedText packing text answer
 IsAnswer (Picture showing) Done text answer = IsShownText showing text answer
 IsAnswer (ListingPicture showing) Done text answer = IsShownListing showing text answer
 IsAnswer (PacketsPicture showing) Done text answer = IsShownPackets showing text answer
-IsAnswer (SerialReport course settings) outcome text answer = IsSerialReport settings course outcome text answer
+IsAnswer (SerialReport course settings apart) outcome text answer = IsSerialReport settings course outcome text answer
 IsAnswer (PacketReport packing course settings) outcome text answer = IsRunReport packing settings course outcome text answer
 IsAnswer (StandingReport form course settings) outcome text answer = IsStandingReport form settings course outcome text answer
 IsAnswer (FlightReport course from settings) outcome text answer = IsFlightReport course from settings outcome text answer

@@ -25,6 +25,7 @@ use c62_adopt::laws::texts_that_stand_lack_nothing;
 use c62_adopt::{Adopted, adopt};
 use c62_command::{Form, Packing, Request, Showing, Start};
 use c62_listing::list;
+use c62_op::Reg;
 use c62_packet::Packets;
 use c62_read::{Program, read_program};
 use c62_show::{Shown, picture, summary};
@@ -154,9 +155,9 @@ fn run_by_workers<H: AllocGlobal + Threads + Wait + Sync>(
     Ok(packet_run(rt.alloc(), &packets, start)?)
 }
 
-/// The report of the serial run of what a text says.
-fn serial(alloc: Global, text: &[u8], start: &Start) -> Result<Reply, Failure>
-    ensures { Gives (SerialReport start.now.course start.now.settings.items) text.now result }
+/// The report of the serial run of what a text says. What becomes of the registers that are to be apart isn't told in it.
+fn serial(alloc: Global, text: &[u8], start: &Start, _apart: &Vec<Reg>) -> Result<Reply, Failure>
+    ensures { Gives (SerialReport start.now.course start.now.settings.items _apart.now.items) text.now result }
 {
     let program = program_of(alloc, text)?;
     Ok(serial_run(alloc, &program, start)?)
@@ -229,7 +230,7 @@ pub fn answer<H: AllocGlobal + Threads + Wait + Sync>(
                 run_by_workers(rt, text, *packing, start)
             }
         }
-        Request::Serial(start) => serial(rt.alloc(), text, start),
+        Request::Serial(start, apart) => serial(rt.alloc(), text, start, apart),
         Request::Sim(form, start) => sim(rt.alloc(), *form, text, start),
         Request::Exec(start) => exec_as(rt.alloc(), text, start),
         Request::Adopt(adopting) => adopted_as(rt.alloc(), text, adopting),
@@ -263,7 +264,7 @@ pub fn limit_of(request: &Request) -> usize
         Request::Sim(form, _) => most_of(*form),
         Request::ShowListing(_) => c62_listing_reader::MOST_BYTES,
         Request::Exec(_) | Request::Adopt(_) | Request::ShowPackets(_) => c62_adopt_cut::MOST_BYTES,
-        Request::Pack(_) | Request::Show(_) | Request::Run(_, _) | Request::Serial(_) => {
+        Request::Pack(_) | Request::Show(_) | Request::Run(_, _) | Request::Serial(_, _) => {
             c62_read::MOST_BYTES
         }
         Request::PackLoops(_) | Request::ShowLoops(_) | Request::RunLoops(_, _) => {

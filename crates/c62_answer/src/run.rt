@@ -23,15 +23,16 @@ fn set(state: &mut State, setting: Setting)
 {
     match setting {
         Setting::Register(reg, value) => state.set(reg, value),
-        Setting::Byte(address, value) => {
-            let _ = state.store(address, 1, value);
+        Setting::Byte(place, value) => {
+            let _ = state.store_at(place, 1, value);
         }
-        Setting::Half(address, value) => {
-            let _ = state.store(address, 2, value);
+        Setting::Half(place, value) => {
+            let _ = state.store_at(place, 2, value);
         }
-        Setting::Word(address, value) => {
-            let _ = state.poke(address, value);
+        Setting::Word(place, value) => {
+            let _ = state.store_at(place, 4, value);
         }
+        Setting::Base(base) => state.set_base(base),
         // That sets nothing: it is printed, or goes to a file, when the run is over.
         Setting::Print(_) | Setting::Dump(_) => {}
     }

@@ -19,10 +19,10 @@ told_next line all k item out now whole inside is before adds =
     ∙ ap (λ rest. out ++ flat_map line rest) (sym cut)
     ∙ before)
 
-pub told_block : (blocks : List Serial) (met : List Meeting) (number : ℕ) (first out now : List ℕ)
-    → out ≡ first ++ lines_upto blocks met number → now ≡ out ++ line_at blocks met number
-    → now ≡ first ++ lines_upto blocks met (number + 1)
-told_block blocks met number first out now before adds =
+pub told_block : (base : ℕ) (blocks : List Serial) (met : List Meeting) (number : ℕ) (first out now : List ℕ)
+    → out ≡ first ++ lines_upto base blocks met number → now ≡ out ++ line_at base blocks met number
+    → now ≡ first ++ lines_upto base blocks met (number + 1)
+told_block base blocks met number first out now before adds =
     let next : number + 1 ≡ suc number = omega arith in
-    rw next (adds ∙ ap (λ o. o ++ line_at blocks met number) before
-    ∙ append_assoc first (lines_upto blocks met number) (line_at blocks met number))
+    rw next (adds ∙ ap (λ o. o ++ line_at base blocks met number) before
+    ∙ append_assoc first (lines_upto base blocks met number) (line_at base blocks met number))

@@ -28,11 +28,11 @@ abbrev pub base_in : Operands → Option Reg
 base_in (Accesses _ base _ _) = Some base
 base_in operands = None
 
--- so many bytes from an address on
-abbrev pub touches_from : Visit → (line : ℕ) → Reg → (address count : ℕ) → List Touch
-touches_from visit line base address zero = []
-touches_from visit line base address (suc count) =
-    record { visit = visit; line = line; base = base; byte = address } ∷ touches_from visit line base (address + 1) count
+-- so many bytes from a place on
+abbrev pub touches_from : Visit → (line : ℕ) → Reg → (place count : ℕ) → List Touch
+touches_from visit line base place zero = []
+touches_from visit line base place (suc count) =
+    record { visit = visit; line = line; base = base; byte = place } ∷ touches_from visit line base (place + 1) count
 
 -- those of an access that doesn't fault, from one of these registers
 abbrev pub touches_by : List Reg → Visit → (line : ℕ) → Reg → Access → List Touch

@@ -28,27 +28,29 @@ fn push_pair(out: &mut Vec<u8>, words: &[u8], one: u32, other: u32) -> Result<()
     push_number(out, b" and ", other)
 }
 
-/// ` touch byte 0x104`
-fn push_byte(out: &mut Vec<u8>, alloc: Global, byte: u32) -> Result<(), AllocError>
-    ensures { OnOk result (out.new.items ≡ out.old.items ++ byte_words byte) }
+/// ` touch byte 0x104`, where memory begins at a base
+fn push_byte(out: &mut Vec<u8>, alloc: Global, base: u32, byte: u32) -> Result<(), AllocError>
+    ensures { OnOk result (out.new.items ≡ out.old.items ++ byte_words base byte) }
 {
-    out.extend_from_slice(format!(in alloc; " touch byte 0x{byte:x}")?.as_bytes())
+    let address = base.wrapping_add(byte);
+    out.extend_from_slice(format!(in alloc; " touch byte 0x{address:x}")?.as_bytes())
 }
 
 /// `loop L: lines 7 and 9 touch byte 0x104 in iterations 1 and 3`
 fn push_meeting(
     out: &mut Vec<u8>,
     alloc: Global,
+    base: u32,
     label: &[u8],
     meeting: Meeting,
 ) -> Result<(), AllocError>
-    ensures { OnOk result (out.new.items ≡ out.old.items ++ meeting_line label.now meeting) }
+    ensures { OnOk result (out.new.items ≡ out.old.items ++ meeting_line base label.now meeting) }
 {
     let Meeting { earlier, later } = meeting;
     out.extend_from_slice(b"loop ")?;
     out.extend_from_slice(label)?;
     push_pair(out, b": lines ", earlier.line, later.line)?;
-    push_byte(out, alloc, later.byte)?;
+    push_byte(out, alloc, base, later.byte)?;
     push_pair(
         out,
         b" in iterations ",
@@ -76,15 +78,16 @@ fn has_met(blocks: &[Block], number: usize, met: &[Meeting]) -> bool
 fn push_mine(
     out: &mut Vec<u8>,
     alloc: Global,
+    base: u32,
     blocks: &[Block],
     number: usize,
     label: &[u8],
     meeting: Meeting,
 ) -> Result<(), AllocError>
-    ensures { OnOk result (out.new.items ≡ out.old.items ++ mine_line blocks.now number label.now meeting) }
+    ensures { OnOk result (out.new.items ≡ out.old.items ++ mine_line base blocks.now number label.now meeting) }
 {
     if is_of(blocks, number, meeting) {
-        push_meeting(out, alloc, label, meeting)
+        push_meeting(out, alloc, base, label, meeting)
     } else {
         Ok(())
     }
@@ -94,15 +97,16 @@ fn push_mine(
 fn push_meetings(
     out: &mut Vec<u8>,
     alloc: Global,
+    base: u32,
     blocks: &[Block],
     number: usize,
     label: &[u8],
     met: &[Meeting],
 ) -> Result<(), AllocError>
-    ensures { OnOk result (out.new.items ≡ out.old.items ++ flat_map (mine_line blocks.now number label.now) met.now) }
+    ensures { OnOk result (out.new.items ≡ out.old.items ++ flat_map (mine_line base blocks.now number label.now) met.now) }
 {
     for meeting in met {
-        push_mine(out, alloc, blocks, number, label, *meeting)?;
+        push_mine(out, alloc, base, blocks, number, label, *meeting)?;
     }
     Ok(())
 }
@@ -120,15 +124,16 @@ fn push_held(out: &mut Vec<u8>, label: &[u8]) -> Result<(), AllocError>
 fn push_loop(
     out: &mut Vec<u8>,
     alloc: Global,
+    base: u32,
     blocks: &[Block],
     number: usize,
     label: &[u8],
     met: &[Meeting],
 ) -> Result<(), AllocError>
-    ensures { OnOk result (out.new.items ≡ out.old.items ++ meeting_lines blocks.now number label.now met.now) }
+    ensures { OnOk result (out.new.items ≡ out.old.items ++ meeting_lines base blocks.now number label.now met.now) }
 {
     if has_met(blocks, number, met) {
-        push_meetings(out, alloc, blocks, number, label, met)
+        push_meetings(out, alloc, base, blocks, number, label, met)
     } else {
         push_held(out, label)
     }
@@ -148,11 +153,12 @@ fn label_of(block: &Block) -> Option<&[u8]>
 fn push_block(
     out: &mut Vec<u8>,
     alloc: Global,
+    base: u32,
     blocks: &[Block],
     number: usize,
     met: &[Meeting],
 ) -> Result<(), AllocError>
-    ensures { OnOk result (out.new.items ≡ out.old.items ++ line_at blocks.now met.now number) }
+    ensures { OnOk result (out.new.items ≡ out.old.items ++ line_at base blocks.now met.now number) }
 {
     if !is_loop(blocks, number) {
         return Ok(());
@@ -161,12 +167,12 @@ fn push_block(
         return Ok(());
     };
     match label_of(block) {
-        Some(label) => push_loop(out, alloc, blocks, number, label, met),
+        Some(label) => push_loop(out, alloc, base, blocks, number, label, met),
         None => Ok(()),
     }
 }
 
-/// What is said of the loops of a program, in the order of its text, where these met in its run: a line
+/// What is said of the loops of a program, in the order of its text, where these met in its run in memory that begins at a base: a line
 /// `loop L: lines 7 and 9 touch byte 0x104 in iterations 1 and 3` for each meeting of a loop, and `loop L: apart held` where it has none.
 ///
 /// # Errors
@@ -175,13 +181,14 @@ fn push_block(
 pub fn push_loops(
     out: &mut Vec<u8>,
     alloc: Global,
+    base: u32,
     blocks: &[Block],
     met: &[Meeting],
 ) -> Result<(), AllocError>
-    ensures { OnOk result (out.new.items ≡ out.old.items ++ lines_of blocks.now met.now) }
+    ensures { OnOk result (out.new.items ≡ out.old.items ++ lines_of base blocks.now met.now) }
 {
     for number in 0..blocks.len() {
-        push_block(out, alloc, blocks, number, met)?;
+        push_block(out, alloc, base, blocks, number, met)?;
     }
     Ok(())
 }

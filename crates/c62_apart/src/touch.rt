@@ -21,7 +21,7 @@ pub struct Touch {
     pub line: u32,
     /// The base register of its address.
     pub base: Reg,
-    /// The address of the byte.
+    /// The place of the byte: how many bytes it lies behind the address at which memory begins.
     pub byte: u32,
 }
 

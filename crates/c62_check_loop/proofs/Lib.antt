@@ -1,2 +1,4 @@
 pub mod Relining
 pub mod Sames
+pub mod SameButs
+pub mod Naming

@@ -26,7 +26,7 @@ one_pass_more loop passes =
     omega (arith, later, here, next)
 
 -- and so does a trip more
-one_trip_more : (loop : Pipelined) (most count : ℕ) → most ≤ count
+pub one_trip_more : (loop : Pipelined) (most count : ℕ) → most ≤ count
     → cycles_of loop (count + 1 - most) ≡ cycles_of loop (count - most) + interval loop
 one_trip_more loop most count enough =
     let e : count + 1 - most ≡ suc (count - most) = omega (arith, enough) in

@@ -7,7 +7,7 @@ use crate::seats::{
     take_later,
 };
 use c62_insn::Reg;
-use c62_loop_match::{Control, Pipelined, Region, Schedule, Stage, touches};
+use c62_loop_match::{Beyond, Control, Pipelined, Region, Schedule, Stage, touches};
 use c62_packet::Placed;
 use c62_read::SerialInsn;
 use c62_rows::Rows;
@@ -23,10 +23,23 @@ pub(crate) struct Match {
     pub most: u8,
 }
 
+/// What is begun of iterations past the last, where prolog and epilog hold fewer of some instructions than of others.
+#[derive(Drop)]
+pub(crate) struct Past {
+    /// The instances, iteration by iteration.
+    pub beyond: Vec<Beyond>,
+    /// How many iterations the prolog holds of an instruction at most.
+    pub deep: u8,
+    /// The line of the first instruction of which they hold others than of the first.
+    pub line: u32,
+}
+
 /// What is found of a loop in packets.
 #[derive(Drop)]
 pub(crate) enum Found {
     Whole(Match),
+    /// The packets hold the loop, and begin these instances past its last iteration.
+    Longer(Match, Past),
     /// They lack an instruction of this line of the text.
     Missing(u32),
     /// The loop lacks the instruction of this line of the packets.
@@ -280,18 +293,15 @@ fn extra_in(parts: &Parts, counter: Reg) -> Option<u32> {
     None
 }
 
-/// What is found where each instruction of the loop is.
+/// What is found where each instruction of the loop is, and prolog and epilog hold so many iterations of each, or of some more.
 fn gathered(
     alloc: Global,
     parts: Parts,
     schedule: Schedule,
     counter: Reg,
     extent: Extent,
+    most: usize,
 ) -> Result<Found, AllocError> {
-    let most = match most_of(&schedule.stages) {
-        Ok(most) => most,
-        Err(line) => return Ok(Found::Uneven(line)),
-    };
     let Ok(most) = u8::try_from(most) else {
         return Ok(Found::TooLong);
     };
@@ -316,6 +326,69 @@ fn gathered(
         control,
         most,
     }))
+}
+
+/// The fewest iterations that prolog and epilog hold of an instruction, and the most.
+fn least_and_most(stages: &[Stage]) -> (usize, usize) {
+    let mut least = usize::MAX;
+    let mut most = 0;
+    for stage in stages {
+        least = least.min(held(stage));
+        most = most.max(held(stage));
+    }
+    (least, most)
+}
+
+/// How many iterations the prolog holds of an instruction at most.
+fn deepest(stages: &[Stage]) -> usize {
+    let mut deep = 0;
+    for stage in stages {
+        deep = deep.max(stage.early.len());
+    }
+    deep
+}
+
+/// The instances of iterations behind so many, one iteration behind the other.
+fn beyond_of(
+    alloc: Global,
+    stages: &[Stage],
+    least: usize,
+    most: u8,
+) -> Result<Vec<Beyond>, AllocError> {
+    let mut beyond = Vec::new(alloc);
+    for number in 0..most {
+        if least <= usize::from(number) {
+            for (place, stage) in stages.iter().enumerate() {
+                if usize::from(number) < held(stage) {
+                    beyond.push(Beyond { place, number })?;
+                }
+            }
+        }
+    }
+    Ok(beyond)
+}
+
+/// What is found where prolog and epilog hold others of the instruction of this line than of the first.
+fn longer(
+    alloc: Global,
+    parts: Parts,
+    schedule: Schedule,
+    counter: Reg,
+    extent: Extent,
+    line: u32,
+) -> Result<Found, AllocError> {
+    let (least, most) = least_and_most(&schedule.stages);
+    let Ok(most) = u8::try_from(most) else {
+        return Ok(Found::Uneven(line));
+    };
+    let Ok(deep) = u8::try_from(deepest(&schedule.stages)) else {
+        return Ok(Found::Uneven(line));
+    };
+    let beyond = beyond_of(alloc, &schedule.stages, least, most)?;
+    match gathered(alloc, parts, schedule, counter, extent, least)? {
+        Found::Whole(found) => Ok(Found::Longer(found, Past { beyond, deep, line })),
+        _ => Ok(Found::Uneven(line)),
+    }
 }
 
 /// The region's instructions, found again in the rows of a loop: the first of those that are the same is that of the first iteration, and
@@ -353,5 +426,8 @@ pub(crate) fn find(
         behind,
         interval,
     };
-    gathered(alloc, parts, schedule, region.counter, extent)
+    match most_of(&schedule.stages) {
+        Ok(most) => gathered(alloc, parts, schedule, region.counter, extent, most),
+        Err(line) => longer(alloc, parts, schedule, region.counter, extent, line),
+    }
 }

@@ -6,23 +6,26 @@ ghost use Rattle.c62_rows.specs.Rows.{text_of};
 ghost use Rattle.c62_loop.specs.Loop.{last_row};
 ghost use Rattle.c62_loop_match.specs.Parts.{loop_of, region_of as region_read};
 ghost use Rattle.c62_loop_match.specs.Promise.{promises};
-ghost use Rattle.c62_check_loop.specs.Told.{IsSame, Tells, TellsWhy, IsTold};
+ghost use Rattle.c62_check_loop.specs.Told.{IsSame, IsNamed, AreNamed, Tells, TellsWhy, IsTold};
 
 use crate::copied::copied;
 use crate::extent::{Extent, extent_of};
-use crate::found::{Found, Match, find};
+use crate::found::{Found, Match, Past, find};
 use crate::region::region_of;
 use crate::relined::are_relined;
 use crate::seats::Lines;
+use c62_insn::{Insn, Operands};
 use c62_loop_match::{
-    Early, Pipelined, Promise, Refusal, Region, decide, is_counted_loop, refusal_of, touches,
+    Early, Pipelined, Promise, Refusal, Region, collapses, decide, is_counted_loop, refusal_of,
+    touches,
 };
-use c62_read::Block;
+use c62_pair::{RegSet, Uses};
+use c62_read::{Block, SerialInsn};
 use c62_rows::{Rows, RowsText};
 use std::alloc::{AllocError, Global};
 
 /// What is told of a loop of a text and packets.
-#[derive(Clone, Copy, PartialEq, Eq, Debug)]
+#[derive(Clone, Copy)]
 pub enum LoopVerdict {
     /// The packets' rows from the first on, up to the last one, do what the loop does, from so many trips on, in so many cycles a trip.
     Same {
@@ -30,6 +33,14 @@ pub enum LoopVerdict {
         cycles: u16,
         first: usize,
         last: usize,
+    },
+    /// They do but for these registers, which instances past the last iteration write, and for accesses of these that fault.
+    SameBut {
+        trips: u16,
+        cycles: u16,
+        first: usize,
+        last: usize,
+        but: RegSet,
     },
     /// They lack an instruction of this line of the text.
     Missing(u32),
@@ -98,6 +109,69 @@ fn is_same(
         promise,
         found.most,
     )
+}
+
+/// The registers that these instructions write, and those into which they load.
+fn named_by(past: &[SerialInsn]) -> RegSet
+    ensures { AreNamed result past.now }
+{
+    let mut named = RegSet::new();
+    for entry in past {
+        named = named.joined(names_of(&entry.insn));
+    }
+    named
+}
+
+/// The registers that an instruction writes, and that into which it loads.
+fn names_of(insn: &Insn) -> RegSet
+    ensures { IsNamed result insn.now }
+{
+    let uses = Uses::new(*insn);
+    match insn.operands() {
+        Operands::Access { register, .. } => uses.written.with(register),
+        _ => uses.written,
+    }
+}
+
+/// What is told of what was found, where it begins iterations past the last: that it does what the loop does but for the registers
+/// that these write, where `collapses` says so.
+fn same_but(
+    alloc: Global,
+    region: &Region,
+    rows: &Rows,
+    found: &Match,
+    past: &Past,
+    promise: Promise,
+) -> Result<LoopVerdict, AllocError>
+    ensures { IfOk result (Tells (promises promise) (region_read region.now) (text_of rows.now)) }
+{
+    if !are_relined(rows, &found.pipelined.rows) {
+        return Ok(LoopVerdict::Uneven(past.line));
+    }
+    let begun = collapses(
+        alloc,
+        region,
+        &found.pipelined,
+        &found.schedule,
+        &found.control,
+        &past.beyond,
+        promise,
+        found.most,
+        past.deep,
+    )?;
+    let trips = 1 + u16::from(found.most);
+    let interval = found.schedule.interval;
+    let row = found.pipelined.first as usize;
+    match begun {
+        Some(work) => Ok(LoopVerdict::SameBut {
+            trips,
+            cycles: interval,
+            first: row,
+            last: last_row(&found.pipelined),
+            but: named_by(&work),
+        }),
+        None => Ok(LoopVerdict::Uneven(past.line)),
+    }
 }
 
 /// Why packets don't pipeline the loop of which this is found in their rows, under lines of theirs.
@@ -191,6 +265,7 @@ fn told(
     };
     match find(alloc, region, &read.rows, extent, Lines::OfText)? {
         Found::Whole(found) => judged(alloc, region, &read.rows, extent, &found, promise),
+        Found::Longer(found, past) => same_but(alloc, region, &read.rows, &found, &past, promise),
         Found::Missing(line) => Ok(LoopVerdict::Missing(line)),
         Found::Extra(line) => Ok(LoopVerdict::Extra(line)),
         Found::Uneven(line) => Ok(LoopVerdict::Uneven(line)),
@@ -202,7 +277,8 @@ fn told(
 /// while a register, its counter, isn't 0.
 ///
 /// `same` is told only where the packets do what the loop does, with the straight instructions around it, from every sound machine of
-/// which the promise holds and which comes to the loop's label with at least the trips in its counter that are told.
+/// which the promise holds and which comes to the loop's label with at least the trips in its counter that are told. With `but` they do
+/// but for the registers that are named, and faulted lines of loads into these.
 ///
 /// # Errors
 ///

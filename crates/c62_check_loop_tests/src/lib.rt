@@ -3,6 +3,8 @@
 #![tactic(auto)]
 
 #[cfg(test)]
+mod past;
+#[cfg(test)]
 mod refused;
 #[cfg(test)]
 mod setter;

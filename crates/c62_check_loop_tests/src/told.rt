@@ -53,7 +53,7 @@ fn told(alloc: Global, text: &str, packets: &str, apart: &str) -> Result<String,
                 promise,
             )?
         {
-            push_loop(&mut out, label, verdict)?;
+            push_loop(&mut out, label, block.insns(), verdict)?;
         }
     }
     match String::from_utf8(out) {

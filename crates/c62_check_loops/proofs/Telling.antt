@@ -19,7 +19,7 @@ use Rattle.c62_check_loops.specs.declared.told.Told.{Told}
 use Rattle.c62_check_loops.specs.declared.verdict.BlockVerdict.{BlockVerdict}
 use Rattle.c62_check_loops.specs.Promised.{IsPromiseOf}
 use Rattle.c62_check_loops.specs.Lines.{line_at, lines_from, rows_line}
-use Rattle.c62_check_loops.specs.Verdicts.{IsBlockTold, are_good, is_good, is_same}
+use Rattle.c62_check_loops.specs.Verdicts.{IsBlockTold, are_good, is_good, is_plain, is_same}
 use Rattle.c62_check_loops.specs.Fit.{are_all_rows, are_fit, is_fit}
 use Rattle.c62_check_loops.specs.Told.{AreLoopsTold, AreTold, stand_in_turn}
 use Rattle.c62_check_loops.proofs.Loops.{each_pushed}
@@ -73,16 +73,23 @@ fit_push blocks loops starts number (v ∷ verdicts) verdict =
     ∙ and_assoc (is_fit blocks loops starts number v) (are_fit blocks loops starts (number + 1) verdicts)
     (is_fit blocks loops starts (number + suc (length verdicts)) verdict)
 
+all_next : (test : BlockVerdict → Bool) (old new : Bool) (verdicts : List BlockVerdict) (verdict : BlockVerdict)
+    → old ≡ list_all test verdicts → new ≡ (old && test verdict) → new ≡ list_all test (verdicts ++ verdict ∷ [])
+all_next test old new verdicts verdict before is = is ∙ (ap (λ (b : Bool). b && test verdict) before
+    ∙ (ap (λ (b : Bool). list_all test verdicts && b) (sym (and_true (test verdict)))
+    ∙ sym (list_all-append test verdicts (verdict ∷ []))))
+
 -- all of it
 pub loops_told : (trips : List (Name × ℕ)) (apart : List Reg) (promise : Promise)
     (loops : List (Option LoopVerdict)) (starts : Starts) (blocks : List Serial) (rows : RowsRead) (count : ℕ)
-    (told : Told) (answer : List ℕ) (same all : Bool)
+    (told : Told) (answer : List ℕ) (same plain all : Bool)
     → AreTold trips promise loops starts blocks (text_of rows) (length blocks) told → IsPromiseOf apart promise
     → count ≡ length rows.rows.items → all ≡ are_all_rows starts (length blocks) count
     → answer ≡ told.text.items ++ rows_line (told.same && not (told.fit && all))
-    → same ≡ (told.good && (told.fit && all))
-    → AreLoopsTold trips apart blocks (text_of rows) answer same
-loops_told trips apart promise loops starts blocks rows count told answer same all is promised counted stands text so =
+    → same ≡ (told.good && (told.fit && all)) → plain ≡ told.plain
+    → AreLoopsTold trips apart blocks (text_of rows) answer same plain
+loops_told trips apart promise loops starts blocks rows count told answer same plain all is promised counted stands
+    text so none =
     let long : length (map row_read rows.rows.items) ≡ length rows.rows.items = length-map rows.rows.items row_read in
     let ends : all ≡ are_all_rows starts (length blocks) (length (text_of rows).rows) = stands
     ∙ ap (λ (n : ℕ). are_all_rows starts (length blocks) n) (counted ∙ sym long) in
@@ -101,17 +108,20 @@ loops_told trips apart promise loops starts blocks rows count told answer same a
           whole));
       all = so ∙ (ap (λ (b : Bool). b && (told.fit && all)) is.good
           ∙ ap (λ (b : Bool). are_good trips blocks 0 is.verdicts && b) whole);
+      bare = none ∙ is.plain;
     }
 
 module _ (trips : List (Name × ℕ)) (promise : Promise) (loops : List (Option LoopVerdict)) (starts : Starts)
     (blocks : List Serial) (packets : Text) where
-  pub none_told : (told : Told) → told.text.items ≡ [] → told.same ≡ true → told.good ≡ true → told.fit ≡ true
+  pub none_told : (told : Told) → told.text.items ≡ [] → told.same ≡ true → told.plain ≡ true → told.good ≡ true
+      → told.fit ≡ true
       → AreTold trips promise loops starts blocks packets 0 told
-  none_told told text same good fit = record {
+  none_told told text same plain good fit = record {
     verdicts = [];
     are = record { counted = refl; each = λ number verdict at. absurd (none-some verdict at) };
     lines = text;
     same = same;
+    plain = plain;
     good = good;
     fit = fit;
   }
@@ -120,10 +130,11 @@ module _ (trips : List (Name × ℕ)) (promise : Promise) (loops : List (Option 
       → AreTold trips promise loops starts blocks packets count old
       → IsBlockTold promise loops starts blocks packets count verdict
       → new.text.items ≡ old.text.items ++ line_at blocks count verdict
-      → new.same ≡ (old.same && is_same verdict) → new.good ≡ (old.good && is_good trips blocks count verdict)
+      → new.same ≡ (old.same && is_same verdict) → new.plain ≡ (old.plain && is_plain verdict)
+      → new.good ≡ (old.good && is_good trips blocks count verdict)
       → new.fit ≡ (old.fit && is_fit blocks loops starts count verdict)
       → AreTold trips promise loops starts blocks packets (count + 1) new
-  told_next count old new verdict told says text same good fit =
+  told_next count old new verdict told says text same plain good fit =
       let counted = told.are.counted in
       let place : count ≡ 0 + length told.verdicts = omega (arith, counted) in
       record {
@@ -136,9 +147,8 @@ module _ (trips : List (Name × ℕ)) (promise : Promise) (loops : List (Option 
         lines = text ∙ (ap (λ (front : List ℕ). front ++ line_at blocks count verdict) told.lines
             ∙ (ap (λ (n : ℕ). lines_from blocks 0 told.verdicts ++ line_at blocks n verdict) place
             ∙ sym (lines_push blocks 0 told.verdicts verdict)));
-        same = same ∙ (ap (λ (b : Bool). b && is_same verdict) told.same
-            ∙ (ap (λ (b : Bool). list_all is_same told.verdicts && b) (sym (and_true (is_same verdict)))
-            ∙ sym (list_all-append is_same told.verdicts (verdict ∷ []))));
+        same = all_next is_same old.same new.same told.verdicts verdict told.same same;
+        plain = all_next is_plain old.plain new.plain told.verdicts verdict told.plain plain;
         good = good ∙ (ap (λ (b : Bool). b && is_good trips blocks count verdict) told.good
             ∙ (ap (λ (n : ℕ). are_good trips blocks 0 told.verdicts && is_good trips blocks n verdict) place
             ∙ sym (good_push trips blocks 0 told.verdicts verdict)));

@@ -2,7 +2,7 @@
 use Rattle.std.specs.Prelude.{ℕ, ◌-◌, ◌+◌, ◌==◌, ◌&&◌, ◌||◌, not, Bool, true, false, List, [], ◌∷◌, slice_get, Option, Some, None, is_none, if◌then◌else◌}
 use Rattle.c62_read.specs.Block.{Serial}
 use Rattle.c62_check_loop.specs.declared.verdict.LoopVerdict.{LoopVerdict}
-use Rattle.c62_check_loop.specs.declared.verdict.LoopVerdict.TheVariants.{Same}
+use Rattle.c62_check_loop.specs.declared.verdict.LoopVerdict.TheVariants.{Same, SameBut}
 use Rattle.c62_check_rest.specs.Starts.{Starts, start_at, is_row}
 use Rattle.c62_check_loops.specs.declared.verdict.BlockVerdict.{BlockVerdict}
 use Rattle.c62_check_loops.specs.declared.verdict.BlockVerdict.TheVariants.{Loop, Within, Rest}
@@ -49,6 +49,8 @@ is_within blocks told starts number =
 -- the rows of a block go from its start to that of what stands behind it
 abbrev pub is_fit : List Serial → List (Option LoopVerdict) → Starts → ℕ → BlockVerdict → Bool
 is_fit blocks told starts number (Loop (Same trips cycles first last)) =
+    is_alone blocks starts number && stands_there blocks starts number first last
+is_fit blocks told starts number (Loop (SameBut trips cycles first last but)) =
     is_alone blocks starts number && stands_there blocks starts number first last
 is_fit blocks told starts number (Loop verdict) = false
 is_fit blocks told starts number Within = is_within blocks told starts number

@@ -1,5 +1,6 @@
 -- The lines of a text and packets that pipeline its loops (docs/CHECK.md, "All loops of a text").
 use Rattle.std.specs.Prelude.{ℕ, ◌+◌, Bool, true, false, List, [], ◌∷◌, ◌++◌, Option, Some, None, codes, slice_get}
+use Rattle.c62_read.specs.declared.block.SerialInsn.{SerialInsn}
 use Rattle.c62_read.specs.Block.{Serial}
 use Rattle.c62_check_loop.specs.declared.verdict.LoopVerdict.{LoopVerdict}
 use Rattle.c62_check_loop.specs.Lines.{loop_line}
@@ -12,13 +13,17 @@ abbrev pub label_in : Option Serial → Option (List ℕ)
 label_in None = None
 label_in (Some block) = block.label
 
-abbrev pub named_line : ℕ → Option (List ℕ) → LoopVerdict → List ℕ
-named_line number None verdict = rest_lines number Unchecked
-named_line number (Some label) verdict = loop_line label verdict
+abbrev pub insns_in : Option Serial → List SerialInsn
+insns_in None = []
+insns_in (Some block) = block.insns
+
+abbrev pub named_line : ℕ → Option (List ℕ) → List SerialInsn → LoopVerdict → List ℕ
+named_line number None insns verdict = rest_lines number Unchecked
+named_line number (Some label) insns verdict = loop_line label insns verdict
 
 -- the line of the loop that the block of this number is
 abbrev pub loop_at : List Serial → ℕ → LoopVerdict → List ℕ
-loop_at blocks number verdict = named_line number (label_in (slice_get blocks number)) verdict
+loop_at blocks number verdict = named_line number (label_in (slice_get blocks number)) (insns_in (slice_get blocks number)) verdict
 
 -- a block that is told with a loop has no line of its own
 abbrev pub line_at : List Serial → ℕ → BlockVerdict → List ℕ

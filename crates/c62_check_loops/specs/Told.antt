@@ -12,7 +12,7 @@ use Rattle.c62_check_loops.specs.declared.told.Told.{Told}
 use Rattle.c62_check_loops.specs.declared.verdict.BlockVerdict.{BlockVerdict}
 use Rattle.c62_check_loops.specs.Lines.{lines_from, rows_line}
 use Rattle.c62_check_loops.specs.Promised.{IsPromiseOf}
-use Rattle.c62_check_loops.specs.Verdicts.{AreVerdicts, is_same, are_good}
+use Rattle.c62_check_loops.specs.Verdicts.{AreVerdicts, is_same, is_plain, are_good}
 use Rattle.c62_check_loops.specs.Fit.{are_fit, are_all_rows}
 
 -- what is told of so many first blocks
@@ -21,6 +21,7 @@ pub record AreTold (trips : List (Name × ℕ)) (promise : Promise) (loops : Lis
   pub are : AreVerdicts promise loops starts blocks packets count verdicts
   pub lines : told.text.items ≡ lines_from blocks 0 verdicts
   pub same : told.same ≡ list_all is_same verdicts
+  pub plain : told.plain ≡ list_all is_plain verdicts
   pub good : told.good ≡ are_good trips blocks 0 verdicts
   pub fit : told.fit ≡ are_fit blocks loops starts 0 verdicts
 
@@ -30,8 +31,8 @@ stand_in_turn loops starts blocks verdicts packets = are_fit blocks loops starts
 
 -- These lines are told of the blocks of a text and packets, where so many trips are promised of the loops of these labels, and that
 -- accesses from two of these registers are apart. All is the same where each block is, as a loop from no more trips on than are promised, or
--- is told with a loop, and their rows are all rows, one behind the other.
-pub record AreLoopsTold (trips : List (Name × ℕ)) (apart : List Reg) (blocks : List Serial) (packets : Text) (answer : List ℕ) (same : Bool) : Type 0 where
+-- is told with a loop, and their rows are all rows, one behind the other. It is plainly so where no loop is the same but for registers.
+pub record AreLoopsTold (trips : List (Name × ℕ)) (apart : List Reg) (blocks : List Serial) (packets : Text) (answer : List ℕ) (same plain : Bool) : Type 0 where
   pub promise : Promise
   pub promised : IsPromiseOf apart promise
   pub loops : List (Option LoopVerdict)
@@ -40,3 +41,4 @@ pub record AreLoopsTold (trips : List (Name × ℕ)) (apart : List Reg) (blocks 
   pub are : AreVerdicts promise loops starts blocks packets (length blocks) verdicts
   pub told : answer ≡ lines_from blocks 0 verdicts ++ rows_line (list_all is_same verdicts && not (stand_in_turn loops starts blocks verdicts packets))
   pub all : same ≡ (are_good trips blocks 0 verdicts && stand_in_turn loops starts blocks verdicts packets)
+  pub bare : plain ≡ list_all is_plain verdicts

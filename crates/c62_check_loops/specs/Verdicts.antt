@@ -6,7 +6,7 @@ use Rattle.c62_flight.specs.Text.{Text}
 use Rattle.c62_loop_match.specs.declared.promise.Promise.{Promise}
 use Rattle.c62_loop_match.specs.Promise.{promises}
 use Rattle.c62_check_loop.specs.declared.verdict.LoopVerdict.{LoopVerdict}
-use Rattle.c62_check_loop.specs.declared.verdict.LoopVerdict.TheVariants.{Same}
+use Rattle.c62_check_loop.specs.declared.verdict.LoopVerdict.TheVariants.{Same, SameBut}
 use Rattle.c62_check_loop.specs.Told.{IsTold}
 use Rattle.c62_check_rest.specs.Starts.{Starts}
 use Rattle.c62_check_rest.specs.Told.{IsRest, is_same as is_same_rest}
@@ -50,13 +50,22 @@ pub record AreVerdicts (promise : Promise) (told : List (Option LoopVerdict)) (s
 -- it is the same, or told with a loop
 abbrev pub is_same : BlockVerdict → Bool
 is_same (Loop (Same trips cycles first last)) = true
+is_same (Loop (SameBut trips cycles first last but)) = true
 is_same (Loop verdict) = false
 is_same Within = true
 is_same (Rest verdict) = is_same_rest verdict
 
+-- it isn't the same but for registers alone
+abbrev pub is_plain : BlockVerdict → Bool
+is_plain (Loop (SameBut trips cycles first last but)) = false
+is_plain (Loop verdict) = true
+is_plain Within = true
+is_plain (Rest verdict) = true
+
 -- a loop of this label is the same with the trips that are promised
 abbrev pub is_good_loop : List (Name × ℕ) → Option Name → LoopVerdict → Bool
 is_good_loop all (Some label) (Same trips cycles first last) = is_granted all label trips
+is_good_loop all (Some label) (SameBut trips cycles first last but) = is_granted all label trips
 is_good_loop all label verdict = false
 
 -- the block of this number is the same, as a loop with those trips, or is told with a loop

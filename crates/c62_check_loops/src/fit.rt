@@ -122,6 +122,9 @@ pub(crate) fn is_fit(
         BlockVerdict::Loop(LoopVerdict::Same { first, last, .. }) => is_alone(
             blocks, starts, number,
         ) && stands_there(blocks, starts, number, *first, *last),
+        BlockVerdict::Loop(LoopVerdict::SameBut { first, last, .. }) => is_alone(
+            blocks, starts, number,
+        ) && stands_there(blocks, starts, number, *first, *last),
         BlockVerdict::Loop(_) => false,
         BlockVerdict::Within => is_within(blocks, loops, starts, number),
         BlockVerdict::Rest(_) => true,

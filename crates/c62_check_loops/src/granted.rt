@@ -25,8 +25,8 @@ fn any_grants(trips: &[Trips], label: &[u8], least: u32) -> bool
     trips.iter().any(|each| is_granted_by(each, label, least))
 }
 
-/// The same by the labels and numbers.
-pub(crate) fn is_granted(trips: &[Trips], label: &[u8], least: u32) -> bool
+/// Whether one of these promises at least so many trips of the loop of a label (docs/CHECK.md, "The command").
+pub fn is_granted(trips: &[Trips], label: &[u8], least: u32) -> bool
     ensures { result ≡ is_granted (map trips_of trips.now) label.now least }
 {
     any_grants(trips, label, least)

@@ -11,6 +11,6 @@ mod settled;
 mod told;
 mod verdict;
 
-pub use granted::first_loopless;
+pub use granted::{first_loopless, is_granted};
 pub use promised::promise_of;
 pub use told::{LoopsChecked, check_loops};

@@ -22,7 +22,7 @@ fn push_named(
         return push_rest(out, u64::from(number), &RestVerdict::Unchecked);
     };
     match block.label() {
-        Some(label) => push_loop(out, label, verdict),
+        Some(label) => push_loop(out, label, block.insns(), verdict),
         None => push_rest(out, u64::from(number), &RestVerdict::Unchecked),
     }
 }

@@ -7,7 +7,7 @@ ghost use Rattle.c62_read.specs.declared.limits.TheConstants.{MOST_BLOCKS};
 ghost use Rattle.c62_command.specs.Promises.{trips_of};
 ghost use Rattle.c62_check_loops.specs.Lines.{label_in};
 ghost use Rattle.c62_check_loops.specs.Covered.{is_told, loop_in};
-ghost use Rattle.c62_check_loops.specs.Verdicts.{AreLoopVerdicts, AreLoopsOf, IsBlockTold, is_good, is_good_loop, is_same};
+ghost use Rattle.c62_check_loops.specs.Verdicts.{AreLoopVerdicts, AreLoopsOf, IsBlockTold, is_good, is_good_loop, is_plain, is_same};
 
 use crate::covered::is_told_with_loop;
 use crate::granted::is_granted;
@@ -36,9 +36,22 @@ pub(crate) fn is_same(verdict: &BlockVerdict) -> bool
 {
     match verdict {
         BlockVerdict::Loop(LoopVerdict::Same { .. }) => true,
+        BlockVerdict::Loop(LoopVerdict::SameBut { .. }) => true,
         BlockVerdict::Loop(_) => false,
         BlockVerdict::Within => true,
         BlockVerdict::Rest(verdict) => verdict.is_same(),
+    }
+}
+
+/// Whether a block isn't the same but for registers alone.
+pub(crate) fn is_plain(verdict: &BlockVerdict) -> bool
+    ensures { result ≡ is_plain verdict.now }
+{
+    match verdict {
+        BlockVerdict::Loop(LoopVerdict::SameBut { .. }) => false,
+        BlockVerdict::Loop(_) => true,
+        BlockVerdict::Within => true,
+        BlockVerdict::Rest(_) => true,
     }
 }
 
@@ -48,6 +61,11 @@ fn is_good_loop(trips: &[Trips], label: Option<&Label>, verdict: LoopVerdict) ->
 {
     match (label, verdict) {
         (Some(label), LoopVerdict::Same { trips: least, .. }) => is_granted(
+            trips,
+            label.as_bytes(),
+            u32::from(least),
+        ),
+        (Some(label), LoopVerdict::SameBut { trips: least, .. }) => is_granted(
             trips,
             label.as_bytes(),
             u32::from(least),

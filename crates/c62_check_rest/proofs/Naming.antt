@@ -24,6 +24,7 @@ use Rattle.c62_read.proofs.BlockLemmas.{aimed_block}
 use Rattle.c62_serial.specs.declared.serial.Exit.{Exit}
 use Rattle.c62_serial.specs.declared.serial.Exit.TheVariants.{Next, Block, Register}
 use Rattle.c62_serial.specs.State.{Machine, word_in, byte_in}
+use Rattle.c62_serial.specs.Memory.{placed_from}
 use Rattle.c62_serial.specs.Effect.{Act, no_act, act_of, loaded}
 use Rattle.c62_serial.specs.Serial.{Ran, serial, after_insn, after_act, act_in, with_access, with_writes, exit_after}
 use Rattle.c62_check_rest.specs.Starts.{Starts, start_at, is_row, goes_to}
@@ -40,13 +41,13 @@ named_block label insns old same whole =
 
 -- ---- what instructions do, of their parts
 
-abbrev act_by : Op → Operands → Option Condition → (Reg → ℕ) → (ℕ → ℕ) → Act
-act_by op operands cond word byte =
+abbrev act_by : Op → Operands → Option Condition → ℕ → (Reg → ℕ) → (ℕ → ℕ) → Act
+act_by op operands cond base word byte =
     if runs_of cond (option_map (λ c. word c.reg) cond) then record {
       writes = zip (writes_of op operands)
           (values_of op operands (map word (reads_of op operands)) ++ option_to_list
-          (loaded byte op (access_of op operands (map word (reads_of op operands)))));
-      access = access_of op operands (map word (reads_of op operands));
+          (loaded byte op (placed_from base (access_of op operands (map word (reads_of op operands))))));
+      access = placed_from base (access_of op operands (map word (reads_of op operands)));
       target = target_of operands (map word (reads_of op operands));
     } else no_act
 
@@ -72,34 +73,36 @@ module _ (label : ℕ) where
   by_named true a c h = h
   by_named false a c h = none_named
 
-  parts_named : (op : Op) (operands : Operands) (cond : Option Condition) (word : Reg → ℕ) (byte : ℕ → ℕ)
-      → IsActNamed (act_by op operands cond word byte) (act_by op (aimed_operands label operands) cond word byte)
-  parts_named op (BlockOperand number) cond word byte =
+  parts_named : (op : Op) (operands : Operands) (cond : Option Condition) (base : ℕ) (word : Reg → ℕ) (byte : ℕ → ℕ)
+      → IsActNamed (act_by op operands cond base word byte)
+      (act_by op (aimed_operands label operands) cond base word byte)
+  parts_named op (BlockOperand number) cond base word byte =
       by_named (runs_of cond (option_map (λ c. word c.reg) cond)) _ _
       (record { writes = refl; access = refl; target = refl })
-  parts_named op (RegisterOperand reg) cond word byte =
+  parts_named op (RegisterOperand reg) cond base word byte =
       by_named (runs_of cond (option_map (λ c. word c.reg) cond)) _ _
       (record { writes = refl; access = refl; target = refl })
-  parts_named op operands cond word byte =
+  parts_named op operands cond base word byte =
       by_named (runs_of cond (option_map (λ c. word c.reg) cond)) _ _
       (record { writes = refl; access = refl; target = refl })
 
   act_named : (entry named : SerialInsn) → numbered_of named ≡ aimed label (numbered_of entry)
-      → (word : Reg → ℕ) (byte : ℕ → ℕ)
-      → IsActNamed (act_of entry.insn word byte) (act_of named.insn word byte)
-  act_named entry named same word byte =
+      → (base : ℕ) (word : Reg → ℕ) (byte : ℕ → ℕ)
+      → IsActNamed (act_of entry.insn base word byte) (act_of named.insn base word byte)
+  act_named entry named same base word byte =
       let op : op_of named.insn ≡ op_of entry.insn = ap (λ (n : Numbered). n.parts.op) same in
       let operands : operands_of named.insn ≡ aimed_operands label (operands_of entry.insn)
       = ap (λ (n : Numbered). n.parts.operands) same in
       let cond : cond_of named.insn ≡ cond_of entry.insn = ap (λ (n : Numbered). n.parts.cond) same in
-      let all : act_by (op_of named.insn) (operands_of named.insn) (cond_of named.insn) word byte
-      ≡ act_by (op_of entry.insn) (aimed_operands label (operands_of entry.insn)) (cond_of entry.insn) word byte
-      = ap (λ (o : Op). act_by o (operands_of named.insn) (cond_of named.insn) word byte) op
-      ∙ (ap (λ (o : Operands). act_by (op_of entry.insn) o (cond_of named.insn) word byte) operands
-      ∙ ap (λ (c : Option Condition). act_by (op_of entry.insn) (aimed_operands label (operands_of entry.insn)) c word
+      let all : act_by (op_of named.insn) (operands_of named.insn) (cond_of named.insn) base word byte
+      ≡ act_by (op_of entry.insn) (aimed_operands label (operands_of entry.insn)) (cond_of entry.insn) base word byte
+      = ap (λ (o : Op). act_by o (operands_of named.insn) (cond_of named.insn) base word byte) op
+      ∙ (ap (λ (o : Operands). act_by (op_of entry.insn) o (cond_of named.insn) base word byte) operands
+      ∙ ap (λ (c : Option Condition). act_by (op_of entry.insn) (aimed_operands label (operands_of entry.insn)) c base
+      word
       byte) cond) in
-      subst (λ (a : Act). IsActNamed (act_of entry.insn word byte) a) (sym all)
-      (parts_named (op_of entry.insn) (operands_of entry.insn) (cond_of entry.insn) word byte)
+      subst (λ (a : Act). IsActNamed (act_of entry.insn base word byte) a) (sym all)
+      (parts_named (op_of entry.insn) (operands_of entry.insn) (cond_of entry.insn) base word byte)
 
   -- ---- what they leave
 
@@ -116,7 +119,7 @@ module _ (label : ℕ) where
       → after_insn (ran_named ran) named ≡ ran_named (after_insn ran entry)
   step_named ran entry named same =
       let line : named.line ≡ entry.line = ap (λ (n : Numbered). n.line) same in
-      let h = act_named entry named same (word_in ran.machine) (byte_in ran.machine) in
+      let h = act_named entry named same ran.machine.base (word_in ran.machine) (byte_in ran.machine) in
       let a : Act = act_in ran.machine entry in
       let b : Act = act_in ran.machine named in
       let machines : after_act named.line b ran.machine ≡ after_act entry.line a ran.machine
@@ -160,14 +163,15 @@ module _ (starts : Starts) (row : ℕ) where
   by_runs exit true a old new = new
   by_runs exit false a old new = old
 
-  step_fits : (exit : Exit) (op : Op) (operands : Operands) (cond : Option Condition) (word : Reg → ℕ) (byte : ℕ → ℕ)
+  step_fits : (exit : Exit) (op : Op) (operands : Operands) (cond : Option Condition) (base : ℕ) (word : Reg → ℕ)
+      (byte : ℕ → ℕ)
       → goes_to starts row operands ≡ true → exit_fits exit ≡ true
-      → exit_fits (exit_after exit (act_by op operands cond word byte).target) ≡ true
-  step_fits exit op (BlockOperand number) cond word byte goes old =
+      → exit_fits (exit_after exit (act_by op operands cond base word byte).target) ≡ true
+  step_fits exit op (BlockOperand number) cond base word byte goes old =
       by_runs exit (runs_of cond (option_map (λ c. word c.reg) cond)) _ old goes
-  step_fits exit op (RegisterOperand reg) cond word byte goes old =
+  step_fits exit op (RegisterOperand reg) cond base word byte goes old =
       by_runs exit (runs_of cond (option_map (λ c. word c.reg) cond)) _ old refl
-  step_fits exit op operands cond word byte goes old =
+  step_fits exit op operands cond base word byte goes old =
       by_runs exit (runs_of cond (option_map (λ c. word c.reg) cond)) _ old old
 
   -- where all branches to blocks go to ones that are entered at the row, so does the block
@@ -179,5 +183,6 @@ module _ (starts : Starts) (row : ℕ) where
       let parts = and_parts (goes_to starts row (operands_of entry.insn))
       (list_all (λ e. goes_to starts row (operands_of e.insn)) insns) all in
       serial_fits insns (after_insn ran entry) parts.1
-      (step_fits ran.exit (op_of entry.insn) (operands_of entry.insn) (cond_of entry.insn) (word_in ran.machine)
+      (step_fits ran.exit (op_of entry.insn) (operands_of entry.insn) (cond_of entry.insn) ran.machine.base
+      (word_in ran.machine)
       (byte_in ran.machine) parts.0 old)

@@ -87,7 +87,7 @@ fn behind_branch(rows: &[Row], first: usize) -> Option<usize> {
 /// The first row of a loop, where it is the same.
 fn first_of(verdict: LoopVerdict) -> Option<usize> {
     match verdict {
-        LoopVerdict::Same { first, .. } => Some(first),
+        LoopVerdict::Same { first, .. } | LoopVerdict::SameBut { first, .. } => Some(first),
         _ => None,
     }
 }
@@ -95,7 +95,7 @@ fn first_of(verdict: LoopVerdict) -> Option<usize> {
 /// The row behind a loop, where it is the same.
 fn last_of(verdict: LoopVerdict) -> Option<usize> {
     match verdict {
-        LoopVerdict::Same { last, .. } => Some(last),
+        LoopVerdict::Same { last, .. } | LoopVerdict::SameBut { last, .. } => Some(last),
         _ => None,
     }
 }

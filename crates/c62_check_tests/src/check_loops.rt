@@ -20,7 +20,7 @@ fn laid(alloc: Global, packets: &[(usize, &str)]) -> Result<String, AllocError> 
     Ok(text)
 }
 
-/// The lines, and whether all is the same.
+/// The lines, whether all is the same, and whether it is so but for registers.
 fn told(
     alloc: Global,
     text: &str,
@@ -38,7 +38,8 @@ fn told(
     }
     let checked = check_loops(alloc, &program, &read, promises)?;
     match String::from_utf8(checked.text) {
-        Ok(lines) => format!(in alloc; "{lines}{}", checked.same),
+        Ok(lines) if checked.plain => format!(in alloc; "{lines}{}", checked.same),
+        Ok(lines) => format!(in alloc; "{lines}{} but", checked.same),
         Err(_) => format!(in alloc; "bytes"),
     }
 }
@@ -247,6 +248,48 @@ const PACKETS_TWO: &[(usize, &str)] = &[
     (1, "END:"),
 ];
 
+/// The packets of the sum without an epilog: loads past the end are in flight there.
+const PACKETS_PAST: &[(usize, &str)] = &[
+    (1, " SUB .S1 A1,1,A1"),
+    (
+        5,
+        " [A1] SUB .S1 A1,1,A1 || [A1] B .S2 L || LDW .D1 *A4++,A2",
+    ),
+    (
+        1,
+        "L: [A1] SUB .S1 A1,1,A1 || [A1] B .S2 L || LDW .D1 *A4++,A2 || ADD .L1 A2,A3,A3",
+    ),
+    (1, " NOP 4"),
+];
+
+/// Those of two loops, of which the first has none.
+const PACKETS_ONE_PAST: &[(usize, &str)] = &[
+    (1, " SUB .S1 A1,1,A1"),
+    (
+        5,
+        " [A1] SUB .S1 A1,1,A1 || [A1] B .S2 L || LDW .D1 *A4++,A2",
+    ),
+    (
+        1,
+        "L: [A1] SUB .S1 A1,1,A1 || [A1] B .S2 L || LDW .D1 *A4++,A2 || ADD .L1 A2,A3,A3",
+    ),
+    (1, " NOP 4"),
+    (1, "MID: [B0] B .S2 END"),
+    (1, " MV .L1 A3,A5"),
+    (1, " NOP 4"),
+    (1, " SUB .S1 A1,6,A1"),
+    (
+        5,
+        " [A1] SUB .S1 A1,1,A1 || [A1] B .S2 M || LDW .D1 *A6++,A7",
+    ),
+    (
+        1,
+        "M: [A1] SUB .S1 A1,1,A1 || [A1] B .S2 M || LDW .D1 *A6++,A7 || ADD .L1 A7,A8,A8",
+    ),
+    (5, " ADD .L1 A7,A8,A8"),
+    (1, "END:"),
+];
+
 /// The packets of the sum's block, and the same with an instruction a cycle early.
 const OWN: &[(usize, &str)] = &[
     (1, "L: SUB .S1 A1,1,A1 || LDW .D1 *A4++,A2"),
@@ -298,7 +341,7 @@ const PACKETS_FIRST: &[(usize, &str)] = &[
     (5, " ADD .L1 A7,A8,A8"),
 ];
 
-const ROWS: [Row; 27] = [
+const ROWS: [Row; 31] = [
     // Trips that are promised, more than are wanted, too few, of another loop, or none.
     Row {
         text: SUM,
@@ -416,6 +459,31 @@ const ROWS: [Row; 27] = [
         packets: PACKETS_TWO,
         trips: &["L=6"],
         lines: "loop L same from 6 trips cycles 1\nblock 1 same\nloop M same from 6 trips cycles 1\nfalse",
+    },
+    // Iterations past the last may change registers, and these are named, beside whatever else is told.
+    Row {
+        text: SUM,
+        packets: PACKETS_PAST,
+        trips: &["L=1"],
+        lines: "loop L same from 1 trips cycles 1 but A2 A4 fault 1\ntrue but",
+    },
+    Row {
+        text: SUM,
+        packets: PACKETS_PAST,
+        trips: &[],
+        lines: "loop L same from 1 trips cycles 1 but A2 A4 fault 1\nfalse but",
+    },
+    Row {
+        text: TWO,
+        packets: PACKETS_ONE_PAST,
+        trips: &["L=1", "M=6"],
+        lines: "loop L same from 1 trips cycles 1 but A2 A4 fault 1\nblock 1 same\nloop M same from 6 trips cycles 1\ntrue but",
+    },
+    Row {
+        text: TWO,
+        packets: PACKETS_ONE_PAST,
+        trips: &["L=1", "M=5"],
+        lines: "loop L same from 1 trips cycles 1 but A2 A4 fault 1\nblock 1 same\nloop M same from 6 trips cycles 1\nfalse but",
     },
     // A loop's rows may be its block's own, whatever is promised of its trips,
     Row {

@@ -1,5 +1,6 @@
 -- What words ask for.
-use Rattle.std.proofs.Common.{◌≡◌, ◌≢◌, ◌∙◌, ℕ, Bool, true, false, List, [], ◌∷◌, length, map, Option, Some, None}
+use Rattle.std.proofs.Common.{◌≡◌, ◌≢◌, ◌∙◌, ℕ, Bool, true, false, List, [], ◌∷◌, length, map}
+use Rattle.std.proofs.Common.{Option, Some, None, option_map}
 use Rattle.std.proofs.Common.{refl, ap, arith}
 use Rattle.std.specs.Prelude.{codes, if◌then◌else◌}
 use Rattle.std.specs.Str.{bytes_eq}
@@ -14,9 +15,10 @@ use Rattle.c62_command.proofs.PromiseLemmas.{none_said}
 use Rattle.c62_command.specs.CommandLine.{Ask, Listing, HasBadPromise, HasBadPromiseIn, HasBadSetting, HasFirstBad}
 use Rattle.c62_command.specs.CommandLine.{IsRefusal, IsRefusalIn, IsUnknown, Adoption, loops_asked, ask_in, asked}
 use Rattle.c62_command.specs.CommandLine.{check_asked, is_set, plain_asked, plain_packing}
-use Rattle.c62_command.specs.CommandLine.{promised_asked, reaching}
+use Rattle.c62_command.specs.CommandLine.{packing_of, promised_asked, reaching, report_asked, serial_asked}
+use Rattle.c62_command.specs.CommandLine.{show_asked, takes_apart}
 use Rattle.c62_command.specs.CommandLine.{setting_words, tool_app, unless_fault}
-use Rattle.c62_command.specs.Settings.{IsFirstBad, settings_of}
+use Rattle.c62_command.specs.Settings.{IsFirstBad, base_among, settings_from, settings_of}
 use Rattle.c62_command.proofs.SettingLemmas.{none_of}
 
 pub asked-none : {W : Type 0} (text : W → Text) (words : List W) → length words ≡ 0
@@ -45,15 +47,27 @@ asked-unknown (word ∷ words) e = faulty (fault_of tool_app (word ∷ words))
     (ask_in (subcommand_of tool_app (word ∷ words))) e.1
 
 no_settings : (rows : List Row) (k : ℕ) → IsFirstBad (setting_words rows) k → settings_of (setting_words rows) ≡ None
-no_settings rows k bad = ap settings_of bad.whole ∙ none_of bad.before bad.text bad.after bad.bad
+no_settings rows k bad =
+    let base : ℕ = base_among (setting_words rows) in
+    ap (settings_from base) bad.whole ∙ none_of base bad.before bad.text bad.after bad.bad
 
 nothing_in : (found : Option (Text × List Row)) (k : ℕ) → HasFirstBad found k → ask_in found ≡ None
 nothing_in None k e = absurd e
 nothing_in (Some (name, rows)) k e =
     rw (e.0.3, e.0.2) (go (is_set (codes "pipeline") rows) (all_trips (trips_words rows)) (apart_of rows))
   where
+    serial : (trips : Option (List (Text × ℕ))) (apart : Option (List Reg)) → serial_asked rows trips apart ≡ None
+    serial None apart = refl
+    serial (Some trips) None = refl
+    serial (Some trips) (Some apart) = rw (no_settings rows k e.1) refl
+
+    other : (is : Bool) → (if is then serial_asked rows (all_trips (trips_words rows)) (apart_of rows)
+        else option_map (report_asked name rows) (settings_of (setting_words rows))) ≡ None
+    other true = serial (all_trips (trips_words rows)) (apart_of rows)
+    other false = rw (no_settings rows k e.1) refl
+
     plain : plain_asked name rows ≡ None
-    plain = rw (e.0.0, e.0.1, no_settings rows k e.1) refl
+    plain = rw (e.0.0, e.0.1) (other (bytes_eq name (codes "serial")))
 
     go : (pipeline : Bool) (trips : Option (List (Text × ℕ))) (apart : Option (List Reg))
         → (if pipeline then promised_asked name rows trips apart else plain_asked name rows) ≡ None
@@ -86,6 +100,34 @@ nothing_promised name rows no_promise.Apart bad = rw (bad.0) (nothing (all_trips
     nothing None = refl
     nothing (Some trips) = refl
 
+nothing_serial : (rows : List Row) (bad : BadPromise) → IsBadPromise rows bad
+    → serial_asked rows (all_trips (trips_words rows)) (apart_of rows) ≡ None
+nothing_serial rows (no_promise.Trips k) bad =
+    let none : all_trips (trips_words rows) ≡ None = ap all_trips bad.whole
+    ∙ none_said trips_in bad.before bad.text bad.after bad.bad in
+    rw none refl
+nothing_serial rows no_promise.Apart bad = rw (bad.0) (nothing (all_trips (trips_words rows)))
+  where
+    nothing : (trips : Option (List (Text × ℕ))) → serial_asked rows trips None ≡ None
+    nothing None = refl
+    nothing (Some trips) = refl
+
+nothing_plain : (name : Text) (rows : List Row) (bad : BadPromise) → IsBadPromise rows bad
+    → takes_apart name ≡ true → plain_asked name rows ≡ None
+nothing_plain name rows bad why =
+    go (bytes_eq name (codes "pack")) (bytes_eq name (codes "show")) (bytes_eq name (codes "serial"))
+  where
+    serial : Option Ask
+    serial = serial_asked rows (all_trips (trips_words rows)) (apart_of rows)
+
+    go : (pack show is : Bool) → (if pack then false else (if show then false else is)) ≡ true
+        → (if pack then Some (Listing (packing_of rows)) else (if show then Some (show_asked rows)
+        else (if is then serial else option_map (report_asked name rows) (settings_of (setting_words rows))))) ≡ None
+    go true show is e = absurd cc
+    go false true is e = absurd cc
+    go false false false e = absurd cc
+    go false false true e = nothing_serial rows bad why
+
 no_loops_in : (found : Option (Text × List Row)) (bad : BadPromise) → HasBadPromiseIn found bad → ask_in found ≡ None
 no_loops_in None bad e = absurd e
 no_loops_in (Some (name, rows)) bad e = go (bytes_eq name (codes "check")) (bytes_eq name (codes "adopt")) e.takes
@@ -102,12 +144,18 @@ no_loops_in (Some (name, rows)) bad e = go (bytes_eq name (codes "check")) (byte
     promised : Option Ask
     promised = promised_asked name rows (all_trips (trips_words rows)) (apart_of rows)
 
-    go : (check adopt : Bool) → (if check then loops else (if adopt then false else pipeline)) ≡ true
+    last : (is : Bool) → (if is then true else takes_apart name) ≡ true
+        → (if is then promised else plain_asked name rows) ≡ None
+    last true takes = nothing_promised name rows bad e.why
+    last false takes = nothing_plain name rows bad e.why takes
+
+    go : (check adopt : Bool)
+        → (if check then loops else (if adopt then false else (if pipeline then true else takes_apart name))) ≡ true
         → (if check then check_asked rows
         else (if adopt then adopting else (if pipeline then promised else plain_asked name rows))) ≡ None
     go true adopt is = rw (is, no_promises rows bad e.why) refl
     go false true is = absurd cc
-    go false false is = rw (is, nothing_promised name rows bad e.why) refl
+    go false false is = last pipeline is
 
 pub asked-bad-promise : (words : List Text) (bad : BadPromise) → HasBadPromise words bad → asked words ≡ None
 unfolding asked

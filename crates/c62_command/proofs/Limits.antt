@@ -83,7 +83,7 @@ blocks_checked =
     ⨾ (other ⨾ other ⨾ other ⨾ other ⨾ other ⨾ other ⨾ other ⨾ other ⨾ other ⨾ other ⨾ other ⨾ other ⨾ other ⨾ tt)
     ⨾ (other ⨾ other ⨾ other ⨾ other ⨾ other ⨾ other ⨾ other ⨾ other ⨾ other ⨾ number_in 1 1000000 ⨾ other
     ⨾ other ⨾ other ⨾ other ⨾ tt)
-    ⨾ (number_in 1 1000000 ⨾ other ⨾ other ⨾ other ⨾ other ⨾ tt)
+    ⨾ (other ⨾ number_in 1 1000000 ⨾ other ⨾ other ⨾ other ⨾ other ⨾ tt)
     ⨾ (other ⨾ number_in 1 1000000 ⨾ other ⨾ other ⨾ other ⨾ other ⨾ tt)
     ⨾ (other ⨾ other ⨾ other ⨾ other ⨾ other ⨾ other ⨾ other ⨾ tt)
     ⨾ (other ⨾ other ⨾ other ⨾ tt)
@@ -98,7 +98,7 @@ eject_checked =
     ⨾ other ⨾ tt)
     ⨾ (other ⨾ number_in 0 1000 ⨾ other ⨾ other ⨾ other ⨾ other ⨾ other ⨾ other ⨾ other ⨾ other ⨾ other ⨾ other
     ⨾ other ⨾ other ⨾ tt)
-    ⨾ (other ⨾ other ⨾ other ⨾ other ⨾ other ⨾ tt)
+    ⨾ (other ⨾ other ⨾ other ⨾ other ⨾ other ⨾ other ⨾ tt)
     ⨾ (other ⨾ other ⨾ other ⨾ other ⨾ other ⨾ other ⨾ tt)
     ⨾ (other ⨾ other ⨾ other ⨾ other ⨾ other ⨾ other ⨾ other ⨾ tt)
     ⨾ (other ⨾ other ⨾ other ⨾ tt)
@@ -112,7 +112,7 @@ cycles_checked =
     ⨾ (other ⨾ other ⨾ other ⨾ other ⨾ other ⨾ other ⨾ other ⨾ other ⨾ other ⨾ other ⨾ other ⨾ other ⨾ other ⨾ tt)
     ⨾ (other ⨾ other ⨾ other ⨾ other ⨾ other ⨾ other ⨾ other ⨾ other ⨾ number_in 1 1000000000 ⨾ other ⨾ other
     ⨾ other ⨾ other ⨾ other ⨾ tt)
-    ⨾ (other ⨾ other ⨾ other ⨾ other ⨾ other ⨾ tt)
+    ⨾ (other ⨾ other ⨾ other ⨾ other ⨾ other ⨾ other ⨾ tt)
     ⨾ (other ⨾ other ⨾ other ⨾ other ⨾ other ⨾ other ⨾ tt)
     ⨾ (number_in 1 1000000000 ⨾ other ⨾ other ⨾ other ⨾ other ⨾ other ⨾ other ⨾ tt)
     ⨾ (other ⨾ other ⨾ other ⨾ tt)
@@ -127,7 +127,7 @@ search_checked =
     ⨾ other ⨾ tt)
     ⨾ (other ⨾ other ⨾ other ⨾ number_in 0 10000 ⨾ other ⨾ other ⨾ other ⨾ other ⨾ other ⨾ other ⨾ other ⨾ other
     ⨾ other ⨾ other ⨾ tt)
-    ⨾ (other ⨾ other ⨾ other ⨾ other ⨾ other ⨾ tt)
+    ⨾ (other ⨾ other ⨾ other ⨾ other ⨾ other ⨾ other ⨾ tt)
     ⨾ (other ⨾ other ⨾ other ⨾ other ⨾ other ⨾ other ⨾ tt)
     ⨾ (other ⨾ other ⨾ other ⨾ other ⨾ other ⨾ other ⨾ other ⨾ tt)
     ⨾ (other ⨾ other ⨾ other ⨾ tt)

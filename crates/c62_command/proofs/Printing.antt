@@ -6,16 +6,18 @@ use Rattle.std.specs.List.{All, position, starts_with}
 use Rattle.std.specs.Str.{bytes_eq}
 use Rattle.std.proofs.lemmas.Bool.Decides.{nat_tests}
 use Rattle.std.proofs.lemmas.List.Elements.{All-append, All-cons, All-nil}
-use Rattle.c62_token.specs.Number.{register_of}
+use Rattle.c62_token.specs.Number.{number_of, register_of}
 use Rattle.c62_command.specs.declared.setting.Setting.{Setting}
 use Rattle.c62_command.specs.declared.setting.Setting.TheVariants.{Register, Print as Prints, Dump as Dumps}
+use Rattle.c62_command.specs.declared.setting.Setting.TheVariants.{Base as Begins}
 use Rattle.c62_command.specs.declared.setting.Size.{Size}
 use Rattle.c62_command.specs.declared.setting.Size.TheVariants.{Byte, Half, Word}
 use Rattle.c62_command.specs.Settings.{ArePrintedOfMemory, PrintsMemory, and_setting, and_settings, bytes_in, cell}
 use Rattle.c62_command.specs.Settings.{cells, dump_setting, dumped, extent_in, form_named, holds, memory_settings}
 use Rattle.c62_command.specs.Settings.{named_setting, one, parts, place_in, print_as, print_parted, print_setting}
-use Rattle.c62_command.specs.Settings.{printed, register_setting, set_at, settings_at, settings_in, settings_of, spans}
-use Rattle.c62_command.specs.Settings.{value_of}
+use Rattle.c62_command.specs.Settings.{printed, register_setting, set_at, settings_at, settings_in, settings_from}
+use Rattle.c62_command.specs.Settings.{spans}
+use Rattle.c62_command.specs.Settings.{base_among, base_of, base_setting, value_of}
 
 -- where this is something, it prints nothing but memory
 abbrev IsPrinted : Option Setting → Type 0
@@ -37,7 +39,7 @@ either P false this that first second = second
 -- ---- what is printed
 
 spanned : (address length : ℕ) (size : Size) (signed : Bool) → spans size address length ≡ true
-    → PrintsMemory (Prints (record { address = address; count = length / bytes_in size; size = size; signed = signed }))
+    → PrintsMemory (Prints (record { place = address; count = length / bytes_in size; size = size; signed = signed }))
 spanned address length Byte signed e = (grind (arith, nat_tests, e), grind (arith, nat_tests, e))
 spanned address length Half signed e = (grind (arith, nat_tests, e), grind (arith, nat_tests, e))
 spanned address length Word signed e = (grind (arith, nat_tests, e), grind (arith, nat_tests, e))
@@ -47,25 +49,25 @@ is_printed address length size signed = go (spans size address length) refl
   where
     go : (b : Bool) → spans size address length ≡ b
         → IsPrinted (cond b (Some
-        (Prints (record { address = address; count = length / bytes_in size; size = size; signed = signed })))
+        (Prints (record { place = address; count = length / bytes_in size; size = size; signed = signed })))
         None)
     go true e = spanned address length size signed e
     go false e = tt
 
-as_printed : (text : List ℕ) (size : Size) (signed : Bool) → IsPrinted (print_as text size signed)
-as_printed text size signed =
-    and_then PrintsMemory (λ extent. printed extent.0 extent.1 size signed) (extent_in text)
+as_printed : (base : ℕ) (text : List ℕ) (size : Size) (signed : Bool) → IsPrinted (print_as base text size signed)
+as_printed base text size signed =
+    and_then PrintsMemory (λ extent. printed extent.0 extent.1 size signed) (extent_in base text)
     (λ extent. is_printed extent.0 extent.1 size signed)
 
-parted_printed : (text : List ℕ) (colon : Option ℕ) → IsPrinted (print_parted text colon)
-parted_printed text None = as_printed text Word false
-parted_printed text (Some k) =
-    and_then PrintsMemory (λ form. print_as (take k text) form.0 form.1) (form_named (drop (k + 1) text))
-    (λ form. as_printed (take k text) form.0 form.1)
+parted_printed : (base : ℕ) (text : List ℕ) (colon : Option ℕ) → IsPrinted (print_parted base text colon)
+parted_printed base text None = as_printed base text Word false
+parted_printed base text (Some k) =
+    and_then PrintsMemory (λ form. print_as base (take k text) form.0 form.1) (form_named (drop (k + 1) text))
+    (λ form. as_printed base (take k text) form.0 form.1)
 
-setting_printed : (text : List ℕ) → IsPrinted (print_setting text)
+setting_printed : (base : ℕ) (text : List ℕ) → IsPrinted (print_setting base text)
 unfolding print_setting
-setting_printed text = parted_printed text (position (λ b. b == 58) text)
+setting_printed base text = parted_printed base text (position (λ b. b == 58) text)
 
 -- ---- what goes to files
 
@@ -73,12 +75,12 @@ is_dumped : (address length : ℕ) → IsPrinted (dumped address length)
 is_dumped address length = go (spans Byte address length) refl
   where
     go : (b : Bool) → spans Byte address length ≡ b
-        → IsPrinted (cond b (Some (Dumps (record { address = address; count = length }))) None)
+        → IsPrinted (cond b (Some (Dumps (record { place = address; count = length }))) None)
     go true e = grind (arith, nat_tests, e)
     go false e = tt
 
-setting_dumped : (text : List ℕ) → IsPrinted (dump_setting text)
-setting_dumped text = and_then PrintsMemory (λ extent. dumped extent.0 extent.1) (extent_in text)
+setting_dumped : (base : ℕ) (text : List ℕ) → IsPrinted (dump_setting base text)
+setting_dumped base text = and_then PrintsMemory (λ extent. dumped extent.0 extent.1) (extent_in base text)
     (λ extent. is_dumped extent.0 extent.1)
 
 -- ---- what is set
@@ -90,6 +92,13 @@ register_set name text = and_then PrintsMemory (λ reg. option_map (Register reg
     go : (f : ℕ → Setting) (o : Option ℕ) → ((value : ℕ) → PrintsMemory (f value)) → IsPrinted (option_map f o)
     go f None each = tt
     go f (Some value) each = each value
+
+base_set : (text : List ℕ) → IsPrinted (base_setting text)
+base_set text = go (option_and_then base_of (number_of text))
+  where
+    go : (o : Option ℕ) → IsPrinted (option_map Begins o)
+    go None = tt
+    go (Some base) = tt
 
 value_set : (size : Size) (address : ℕ) (o : Option ℕ) → IsPrinted (option_map (set_at size address) o)
 value_set size address None = tt
@@ -120,30 +129,32 @@ one_said : (said : Option Setting) → IsPrinted said → ArePrinted (one said)
 one_said None is = tt
 one_said (Some setting) is = All-cons PrintsMemory setting [] is (All-nil PrintsMemory)
 
-memory_said : (place text : List ℕ) → ArePrinted (memory_settings place text)
-memory_said place text =
-    and_then (All PrintsMemory) (λ found. cells found.1 found.0 (parts text)) (place_in place)
+memory_said : (base : ℕ) (place text : List ℕ) → ArePrinted (memory_settings base place text)
+memory_said base place text =
+    and_then (All PrintsMemory) (λ found. cells found.1 found.0 (parts text)) (place_in base place)
     (λ found. cells_set found.1 found.0 (parts text))
 
-named_said : (name text : List ℕ) → IsPrinted (named_setting name text)
-named_said name text =
-    let other : Option Setting = cond (bytes_eq name (codes "dump")) (dump_setting text) (register_setting name text) in
-    either PrintsMemory (bytes_eq name (codes "print")) (print_setting text) other (setting_printed text)
-    (either PrintsMemory (bytes_eq name (codes "dump")) (dump_setting text) (register_setting name text)
-    (setting_dumped text) (register_set name text))
+named_said : (base : ℕ) (name text : List ℕ) → IsPrinted (named_setting base name text)
+named_said base name text =
+    let last : Option Setting = cond (bytes_eq name (codes "base")) (base_setting text) (register_setting name text) in
+    let other : Option Setting = cond (bytes_eq name (codes "dump")) (dump_setting base text) last in
+    either PrintsMemory (bytes_eq name (codes "print")) (print_setting base text) other (setting_printed base text)
+    (either PrintsMemory (bytes_eq name (codes "dump")) (dump_setting base text) last (setting_dumped base text)
+    (either PrintsMemory (bytes_eq name (codes "base")) (base_setting text) (register_setting name text) (base_set text)
+    (register_set name text)))
 
-said_at : (name text : List ℕ) → ArePrinted (settings_at name text)
+said_at : (base : ℕ) (name text : List ℕ) → ArePrinted (settings_at base name text)
 unfolding settings_at
-said_at name text =
-    either (All PrintsMemory) (starts_with nat_eq name (64 ∷ [])) (memory_settings (drop 1 name) text)
-    (one (named_setting name text))
-    (memory_said (drop 1 name) text) (one_said (named_setting name text) (named_said name text))
+said_at base name text =
+    either (All PrintsMemory) (starts_with nat_eq name (64 ∷ [])) (memory_settings base (drop 1 name) text)
+    (one (named_setting base name text))
+    (memory_said base (drop 1 name) text) (one_said (named_setting base name text) (named_said base name text))
 
-said_in : (text : List ℕ) → ArePrinted (settings_in text)
+said_in : (base : ℕ) (text : List ℕ) → ArePrinted (settings_in base text)
 unfolding settings_in
-said_in text =
-    and_then (All PrintsMemory) (λ k. settings_at (take k text) (drop (k + 1) text)) (position (λ b. b == 61) text)
-    (λ k. said_at (take k text) (drop (k + 1) text))
+said_in base text =
+    and_then (All PrintsMemory) (λ k. settings_at base (take k text) (drop (k + 1) text)) (position (λ b. b == 61) text)
+    (λ k. said_at base (take k text) (drop (k + 1) text))
 
 with_settings : (mine others : Option (List Setting)) → ArePrinted mine → ArePrinted others
     → ArePrinted (and_settings mine others)
@@ -151,9 +162,10 @@ with_settings None others is are = tt
 with_settings (Some mine) None is are = tt
 with_settings (Some mine) (Some settings) is are = All-append PrintsMemory mine settings is are
 
-said_by : (texts : List (List ℕ)) → ArePrinted (settings_of texts)
-said_by [] = All-nil PrintsMemory
-said_by (text ∷ texts) = with_settings (settings_in text) (settings_of texts) (said_in text) (said_by texts)
+said_by : (base : ℕ) (texts : List (List ℕ)) → ArePrinted (settings_from base texts)
+said_by base [] = All-nil PrintsMemory
+said_by base (text ∷ texts) =
+    with_settings (settings_in base text) (settings_from base texts) (said_in base text) (said_by base texts)
 
 pub printed_of_memory : (texts : List (List ℕ)) → ArePrintedOfMemory texts
-printed_of_memory texts settings are = subst ArePrinted are (said_by texts)
+printed_of_memory texts settings are = subst ArePrinted are (said_by (base_among texts) texts)

@@ -12,7 +12,7 @@ use Rattle.std.proofs.lemmas.Option.{same_Some}
 use Rattle.c62_command.specs.declared.setting.Setting.{Setting}
 use Rattle.c62_command.specs.declared.setting.Size.{Size}
 use Rattle.c62_command.specs.Settings.{Adds, IsFirstBad, IsParted, and_setting, and_settings, bytes_in, cell, cells}
-use Rattle.c62_command.specs.Settings.{holds, onto, parts, set_at, settings_in, settings_of, value_of}
+use Rattle.c62_command.specs.Settings.{holds, onto, parts, set_at, settings_in, settings_from, base_among, value_of}
 
 -- ---- values between commas
 
@@ -171,15 +171,16 @@ with_more (Some a) (Some rest) more all mine e f =
     let same : a ++ rest ≡ all = same_Some (a ++ rest) all e in
     rw (f rest refl, sym same) (ap Some (sym (append_assoc a rest mine)))
 
-settings_of-append : (texts : List (List ℕ)) (text : List ℕ) (all mine : List Setting) → settings_of texts ≡ Some all
-    → settings_in text ≡ Some mine
-    → settings_of (texts ++ text ∷ []) ≡ Some (all ++ mine)
-settings_of-append [] text all mine e is =
+settings_from-append : (base : ℕ) (texts : List (List ℕ)) (text : List ℕ) (all mine : List Setting)
+    → settings_from base texts ≡ Some all
+    → settings_in base text ≡ Some mine
+    → settings_from base (texts ++ text ∷ []) ≡ Some (all ++ mine)
+settings_from-append base [] text all mine e is =
     let same : [] ≡ all = same_Some [] all e in
     rw (is, sym same) (ap Some (append-nil mine))
-settings_of-append (first ∷ texts) text all mine e is =
-    with_more (settings_in first) (settings_of texts) (settings_of (texts ++ text ∷ [])) all mine e
-    (λ rest r. settings_of-append texts text rest mine r is)
+settings_from-append base (first ∷ texts) text all mine e is =
+    with_more (settings_in base first) (settings_from base texts) (settings_from base (texts ++ text ∷ [])) all mine e
+    (λ rest r. settings_from-append base texts text rest mine r is)
 
 abbrev pub words : List (Bor (List ℕ)) → List (List ℕ)
 words texts = map (λ text. text.now) texts
@@ -189,21 +190,24 @@ word_at : (texts : List (Bor (List ℕ))) (k : ℕ) (d : Bor (List ℕ)) → k <
     → get_or (words texts) k [] ≡ (get_or texts k d).now
 word_at texts k d within = get_or-map (λ (t : Bor (List ℕ)). t.now) texts k d [] within
 
-pub one_more : (texts : List (Bor (List ℕ))) (k : ℕ) (d : Bor (List ℕ)) (all new : List Setting) → k < length texts
-    → settings_of (take k (words texts)) ≡ Some all → Adds (settings_in (get_or texts k d).now) all new true
-    → settings_of (take (k + 1) (words texts)) ≡ Some new
-one_more texts k d all new within so_far adds =
+pub one_more : (base : ℕ) (texts : List (Bor (List ℕ))) (k : ℕ) (d : Bor (List ℕ)) (all new : List Setting)
+    → k < length texts
+    → settings_from base (take k (words texts)) ≡ Some all → Adds (settings_in base (get_or texts k d).now) all new true
+    → settings_from base (take (k + 1) (words texts)) ≡ Some new
+one_more base texts k d all new within so_far adds =
     let inside : k < length (words texts) = rw length-map within in
-    let is = added (settings_in (get_or texts k d).now) all new adds in
-    let last : settings_in (get_or (words texts) k []) ≡ Some is.0 = ap settings_in (word_at texts k d within) ∙ is.1 in
+    let is = added (settings_in base (get_or texts k d).now) all new adds in
+    let last : settings_in base (get_or (words texts) k []) ≡ Some is.0
+    = ap (settings_in base) (word_at texts k d within) ∙ is.1 in
     rw (take_more (words texts) k [] inside)
-    (settings_of-append (take k (words texts)) (get_or (words texts) k []) all is.0 so_far last
+    (settings_from-append base (take k (words texts)) (get_or (words texts) k []) all is.0 so_far last
     ∙ ap Some (sym is.2))
 
-pub first_bad : (texts : List (Bor (List ℕ))) (k : ℕ) (d : Bor (List ℕ)) (all new : List Setting) → k < length texts
-    → settings_of (take k (words texts)) ≡ Some all → Adds (settings_in (get_or texts k d).now) all new false
+pub first_bad : (base : ℕ) (texts : List (Bor (List ℕ))) (k : ℕ) (d : Bor (List ℕ)) (all new : List Setting)
+    → base ≡ base_among (words texts) → k < length texts → settings_from base (take k (words texts)) ≡ Some all
+    → Adds (settings_in base (get_or texts k d).now) all new false
     → IsFirstBad (words texts) (k + 1)
-first_bad texts k d all new within so_far adds =
+first_bad base texts k d all new same within so_far adds =
     let inside : k < length (words texts) = rw length-map within in
     record {
       before = take k (words texts);
@@ -211,15 +215,18 @@ first_bad texts k d all new within so_far adds =
       after = drop (suc k) (words texts);
       whole = split_at (words texts) k [] inside;
       number = ap (λ (n : ℕ). n + 1) (sym (length-take-le k (words texts) (omega arith)));
-      good = ap is_some so_far;
-      bad = ap settings_in (word_at texts k d within) ∙ not_added (settings_in (get_or texts k d).now) all new adds;
+      good = subst (λ (b : ℕ). is_some (settings_from b (take k (words texts))) ≡ true) same (ap is_some so_far);
+      bad = subst (λ (b : ℕ). settings_in b (get_or (words texts) k []) ≡ None) same
+          (ap (settings_in base) (word_at texts k d within)
+          ∙ not_added (settings_in base (get_or texts k d).now) all new adds);
     }
 
 -- where one word is no setting, the words are none
-pub none_of : (before : List (List ℕ)) (text : List ℕ) (after : List (List ℕ)) → settings_in text ≡ None
-    → settings_of (before ++ text ∷ after) ≡ None
-none_of [] text after none = rw none refl
-none_of (first ∷ before) text after none = rw (none_of before text after none) (nothing (settings_in first))
+pub none_of : (base : ℕ) (before : List (List ℕ)) (text : List ℕ) (after : List (List ℕ)) → settings_in base text ≡ None
+    → settings_from base (before ++ text ∷ after) ≡ None
+none_of base [] text after none = rw none refl
+none_of base (first ∷ before) text after none =
+    rw (none_of base before text after none) (nothing (settings_in base first))
   where
     nothing : (a : Option (List Setting)) → and_settings a None ≡ None
     nothing None = refl

@@ -170,9 +170,9 @@ show_app = with_details (with_forms (with_pipeline (with_packing (new_app (codes
 abbrev pub run_app : App
 run_app = with_start (with_pipelined_run (with_packing (new_app (codes "run"))))
 
--- `serial [--blocks N] [--profile] [--strict] [SETTING]..`
+-- `serial [--apart REG,REG,..] [--blocks N] [--profile] [--strict] [SETTING]..`
 abbrev pub serial_app : App
-serial_app = with_start (new_app (codes "serial"))
+serial_app = with_start (with_rule (new_app (codes "serial")) apart_rule)
 
 -- `sim [--packets] [--blocks N] [--profile] [--strict] [SETTING]..`
 abbrev pub sim_app : App
@@ -227,8 +227,9 @@ pub data Ask : Type 0 where
   ListingPicture : Showing → Ask
   -- the picture of the blocks of a text of packets, as they stand
   PacketsPicture : Showing → Ask
-  -- the report of a serial run on this course, from a state with these settings
-  SerialReport : Course → List Setting → Ask
+  -- the report of a serial run on this course, from a state with these settings; and where accesses from two of these registers touch one
+  -- byte in two iterations
+  SerialReport : Course → List Setting → (apart : List Reg) → Ask
   -- the report of the same run of the packets of a text, packed so
   PacketReport : Packing → Course → List Setting → Ask
   -- the report of such a run of packets as they stand in a text of this form
@@ -267,7 +268,7 @@ ask_of (Show showing) = Picture showing
 ask_of (ShowListing showing) = ListingPicture showing
 ask_of (ShowPackets showing) = PacketsPicture showing
 ask_of (Run packing start) = PacketReport packing start.course start.settings.items
-ask_of (Serial start) = SerialReport start.course start.settings.items
+ask_of (Serial start apart) = SerialReport start.course start.settings.items apart.items
 ask_of (Sim form start) = StandingReport form start.course start.settings.items
 ask_of (Exec start) = flight_asked start.alone start.course (option_map (λ name. name.items) start.from) start.settings.items
 ask_of (Adopt adopting) = reaching (option_map (λ name. name.items) adopting.from) (Adoption adopting.drain)
@@ -371,8 +372,12 @@ abbrev pub report_asked : Text → List Row → List Setting → Ask
 report_asked name rows settings =
     if bytes_eq name (codes "run") then PacketReport (packing_of rows) (course_of rows) settings
     else (if bytes_eq name (codes "sim") then StandingReport (form_of rows) (course_of rows) settings
-    else (if bytes_eq name (codes "exec") then flight_asked (is_set (codes "alone") rows) (flight_course_of rows) (first_of (codes "from") rows) settings
-    else SerialReport (course_of rows) settings))
+    else flight_asked (is_set (codes "alone") rows) (flight_course_of rows) (first_of (codes "from") rows) settings)
+
+-- the report of a serial run, where the promises are some
+abbrev pub serial_asked : List Row → Option (List (Text × ℕ)) → Option (List Reg) → Option Ask
+serial_asked rows (Some trips) (Some apart) = option_map (λ settings. SerialReport (course_of rows) settings apart) (settings_of (setting_words rows))
+serial_asked rows _ _ = None
 
 -- what a check of loops asks for, where the promises are some
 abbrev pub loops_asked : Option (List (Text × ℕ)) → Option (List Reg) → Option Ask
@@ -401,7 +406,9 @@ promised_asked name rows _ _ = None
 abbrev pub plain_asked : Text → List Row → Option Ask
 plain_asked name rows =
     if bytes_eq name (codes "pack") then Some (Listing (packing_of rows))
-    else (if bytes_eq name (codes "show") then Some (show_asked rows) else option_map (report_asked name rows) (settings_of (setting_words rows)))
+    else (if bytes_eq name (codes "show") then Some (show_asked rows)
+    else (if bytes_eq name (codes "serial") then serial_asked rows (all_trips (trips_words rows)) (apart_of rows)
+    else option_map (report_asked name rows) (settings_of (setting_words rows))))
 
 -- what the subcommand's name and what was found for its arguments ask for, where the settings and promises are good
 abbrev pub ask_in : Option (Text × List Row) → Option Ask
@@ -441,11 +448,16 @@ IsBadIn found error = (k : ℕ) → error ≡ Bad k → HasFirstBad found k
 abbrev pub HasBadSetting : List Text → ℕ → Type 0
 HasBadSetting words k = (0 < length words) × (fault_of tool_app words ≡ []) × HasFirstBad (subcommand_of tool_app words) k
 
--- the subcommand is a check of loops, or pipelines them
+-- the subcommand is a serial run
+abbrev pub takes_apart : Text → Bool
+takes_apart name =
+    if bytes_eq name (codes "pack") then false else (if bytes_eq name (codes "show") then false else bytes_eq name (codes "serial"))
+
+-- the subcommand is a check of loops, pipelines them, or is a serial run
 abbrev pub takes_promises : Text → List Row → Bool
 takes_promises name rows =
     if bytes_eq name (codes "check") then is_set (codes "loops") rows
-    else (if bytes_eq name (codes "adopt") then false else is_set (codes "pipeline") rows)
+    else (if bytes_eq name (codes "adopt") then false else (if is_set (codes "pipeline") rows then true else takes_apart name))
 
 -- so it is, and one of its promises is bad
 pub record HasBadPromiseAmong (name : Text) (rows : List Row) (bad : BadPromise) : Type 0 where

@@ -4,7 +4,7 @@ ghost use Rattle.std.specs.Prelude.{◌≡◌, IfOk, false};
 ghost use Rattle.clap.specs.Words.{app_of, rule_of};
 ghost use Rattle.c62_command.specs.CommandLine.{turns_rule, eject_rule, blocks_rule, settings_rule, cycles_rule, from_rule, alone_rule, drain_rule, why_rule, registers_rule, listing_rule, packets_rule, with_forms, pack_app, show_app, run_app, serial_app, sim_app, exec_app, adopt_app, check_app, bare_app, listing_app, packing_app, running_app, tool_app, with_packing, with_start, IsLocal, profile_rule, strict_rule, with_reach, with_flight, summary_rule, with_details, shortest_rule, search_rule, verbose_rule, with_pipelined_run, with_told_pipeline, with_report};
 
-use crate::checking::{with_loops, with_pipeline};
+use crate::checking::{apart_option, with_loops, with_pipeline};
 use clap::{Arg, ArgAction, Command, value_parser};
 use std::alloc::{AllocError, Global};
 
@@ -364,10 +364,10 @@ fn serial_command<'a>(alloc: Global) -> Result<Command<'a>, AllocError>
     let command = Command::new(alloc, "serial")
         .about("Runs serial text, one instruction after the other, and reports the end")
         .override_usage(
-            "c62 serial [--blocks <N>] [--profile] [--strict] [-o <FILE>] [FILE] [SETTING]...",
+            "c62 serial [--apart <REG,REG,..>] [--blocks <N>] [--profile] [--strict] [-o <FILE>] [FILE] [SETTING]...",
         )
         .after_help(ending!("c62 serial kernel.s A4=8 @8=99"));
-    with_start(alloc, command)
+    with_start(alloc, command.arg(apart_option(alloc))?)
 }
 
 fn sim_command<'a>(alloc: Global) -> Result<Command<'a>, AllocError>

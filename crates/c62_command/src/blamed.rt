@@ -2,10 +2,12 @@
 
 ghost use Rattle.std.specs.Prelude.{◌≡◌, ◌-◌, IfOk, map, option_map, slice_get};
 ghost use Rattle.clap.specs.Words.{subcommand_rows_of};
-ghost use Rattle.c62_command.specs.Blamed.{setting_at, settings_among};
+ghost use Rattle.c62_command.specs.Blamed.{base_given, setting_at, settings_among};
 ghost use Rattle.c62_command.specs.CommandLine.{words_of};
+ghost use Rattle.c62_command.specs.Settings.{base_among};
 
 use crate::command::matches_of;
+use crate::setting::base_among;
 use clap::ArgMatches;
 use clap::error::ErrorKind;
 use std::alloc::{AllocError, Global};
@@ -39,6 +41,41 @@ fn setting_in<'a>(matches: &ArgMatches<'a>, number: usize) -> Option<&'a str>
     match matches.subcommand() {
         Some((_, found)) => setting_of(found, number),
         None => None,
+    }
+}
+
+/// Where memory begins by what clap found for the arguments of a command.
+fn base_of(found: &ArgMatches<'_>) -> u32
+    ensures { result ≡ base_among (words_of found.now) }
+{
+    match found.get_strs("settings") {
+        Some(words) => base_among(words),
+        None => 0,
+    }
+}
+
+/// Where memory begins by the settings of the subcommand.
+fn base_in(matches: &ArgMatches<'_>) -> u32
+    ensures { result ≡ base_among (settings_among (subcommand_rows_of matches.now)) }
+{
+    match matches.subcommand() {
+        Some((_, found)) => base_of(found),
+        None => 0,
+    }
+}
+
+/// Where memory begins by the settings among the words after the program's name. None where clap doesn't take the words.
+///
+/// # Errors
+///
+/// `AllocError` where memory ran out.
+pub fn base_given<'a, S: AsStr>(alloc: Global, words: &'a [S]) -> Result<Option<u32>, AllocError>
+    ensures { IfOk result (λ base. base ≡ base_given (map S.text words.entry.now)) }
+{
+    match matches_of(alloc, words) {
+        Ok(matches) => Ok(Some(base_in(&matches))),
+        Err(error) if error.kind() == ErrorKind::OutOfMemory => Err(AllocError),
+        Err(_) => Ok(None),
     }
 }
 

@@ -32,7 +32,7 @@ fn trips_option<'a>(alloc: Global) -> Arg<'a>
         .help("A promise: the loop of label L is entered with at least N trips")
 }
 
-fn apart_option<'a>(alloc: Global) -> Arg<'a>
+pub(crate) fn apart_option<'a>(alloc: Global) -> Arg<'a>
     ensures rule { rule_of result ≡ apart_rule }
     ensures local { result.global ≡ false }
 {

@@ -3,15 +3,16 @@
 ghost use Rattle.std.specs.Prelude.{◌≡◌, IfOk, IfErr, Some, false, map, [], codes, option_map};
 ghost use Rattle.std.specs.Str.{bytes_eq};
 ghost use Rattle.clap.specs.Words.{first_of, subcommand_of, subcommand_rows_of, fault_of};
-ghost use Rattle.c62_command.specs.CommandLine.{form_of, tool_app, is_set, blocks_of, cycles_of, budget_of, packing_of, showing_of, show_asked, found_rows, words_of, named_rows, ask_in, ask_of, pipelined_asked, plain_asked, asked, IsBadIn, IsBlame, IsRefusal, IsWordsError, IsSettingError, IsPromiseError, IsRefusalIn, course_of, choices_of, asks_shortest, flight_course_of};
+ghost use Rattle.c62_command.specs.CommandLine.{form_of, tool_app, is_set, blocks_of, cycles_of, budget_of, packing_of, showing_of, show_asked, found_rows, words_of, named_rows, ask_in, ask_of, pipelined_asked, plain_asked, asked, IsBadIn, IsBlame, IsRefusal, IsWordsError, IsSettingError, IsPromiseError, IsRefusalIn, course_of, choices_of, asks_shortest, flight_course_of, report_asked, SerialReport};
 ghost use Rattle.c62_command.specs.Promises.{IsPromiseErrorIn, all_trips, apart_of, trips_of, trips_words};
-ghost use Rattle.c62_command.specs.Settings.{AreSettings, IsBadAmong};
+ghost use Rattle.c62_command.specs.Settings.{AreSettings, IsBadAmong, settings_of};
 
 use crate::arguments::tool_command;
 use crate::checking::{check_in, promises_in};
 use crate::flight::{FlightCourse, FlightStart, flight_course_in};
 use crate::promise::{BadPromise, PromiseError, Promises};
 use crate::setting::{Setting, SettingError, read_settings};
+use c62_op::Reg;
 use clap::error::ErrorKind;
 use clap::{ArgMatches, Error};
 use std::alloc::{AllocError, Global};
@@ -114,8 +115,8 @@ pub enum Request {
     ShowPackets(Showing),
     /// The report of a run of the packets of a serial text.
     Run(Packing, Start),
-    /// The report of the serial run of a serial text.
-    Serial(Start),
+    /// The report of the serial run of a serial text, and where accesses from two of these registers touch one byte in two iterations.
+    Serial(Start, Vec<Reg>),
     /// The report of a run of packets as they stand in a text of this form.
     Sim(Form, Start),
     /// The report of a run of a text of packets, with everything in flight.
@@ -391,12 +392,42 @@ pub(crate) fn form_in(matches: &ArgMatches<'_>) -> Form
     }
 }
 
+/// What `run`, `sim` and `exec` ask for.
+fn report_named(alloc: Global, name: &str, found: &ArgMatches<'_>) -> Result<Request, SettingError>
+    ensures ok { IfOk result (λ request. option_map (report_asked name.now (found_rows found.now)) (settings_of (words_of found.now)) ≡ Some (ask_of request)) }
+    ensures err { IfErr result (IsBadAmong (words_of found.now)) }
+{
+    if name == "run" {
+        let start = start_in(alloc, found)?;
+        return Ok(Request::Run(packing_in(found), start));
+    }
+    if name == "sim" {
+        let start = start_in(alloc, found)?;
+        return Ok(Request::Sim(form_in(found), start));
+    }
+    Ok(Request::Exec(flight_in(alloc, found)?))
+}
+
+/// What `serial` asks for, where these registers are promised to be apart.
+fn serial_in(
+    alloc: Global,
+    apart: Vec<Reg>,
+    found: &ArgMatches<'_>,
+) -> Result<Request, SettingError>
+    ensures ok { IfOk result (λ request. option_map (λ settings. SerialReport (course_of (found_rows found.now)) settings apart.items)
+        (settings_of (words_of found.now)) ≡ Some (ask_of request)) }
+    ensures err { IfErr result (IsBadAmong (words_of found.now)) }
+{
+    let start = start_in(alloc, found)?;
+    Ok(Request::Serial(start, apart))
+}
+
 /// What the subcommand of this name, which is neither `check` nor `adopt`, asks for where its loops aren't pipelined.
-fn request_named(alloc: Global, name: &str, found: &ArgMatches<'_>) -> Result<Request, SettingError>
+fn request_named(alloc: Global, name: &str, found: &ArgMatches<'_>) -> Result<Request, CommandError>
     requires check { bytes_eq name.now (codes "check") ≡ false }
     requires adopt { bytes_eq name.now (codes "adopt") ≡ false }
     ensures ok { IfOk result (λ request. plain_asked name.now (found_rows found.now) ≡ Some (ask_of request)) }
-    ensures err { IfErr result (IsBadIn (named_rows name.now found.now)) }
+    ensures err { IfErr result (IsRefusalIn (named_rows name.now found.now)) }
 {
     if name == "pack" {
         return Ok(Request::Pack(packing_in(found)));
@@ -404,17 +435,11 @@ fn request_named(alloc: Global, name: &str, found: &ArgMatches<'_>) -> Result<Re
     if name == "show" {
         return Ok(show_in(found));
     }
-    if name == "exec" {
-        return Ok(Request::Exec(flight_in(alloc, found)?));
+    if name == "serial" {
+        let promises = promises_in(alloc, found)?;
+        return Ok(serial_in(alloc, promises.apart, found)?);
     }
-    let start = start_in(alloc, found)?;
-    Ok(if name == "run" {
-        Request::Run(packing_in(found), start)
-    } else if name == "sim" {
-        Request::Sim(form_in(found), start)
-    } else {
-        Request::Serial(start)
-    })
+    Ok(report_named(alloc, name, found)?)
 }
 
 /// A run of packets whose loops are pipelined, by the options of its subcommand.
@@ -487,7 +512,7 @@ fn request_of(alloc: Global, name: &str, found: &ArgMatches<'_>) -> Result<Reque
         let looping = looping_in(alloc, found)?;
         return Ok(pipelined_named(alloc, name, found, looping)?);
     }
-    Ok(request_named(alloc, name, found)?)
+    request_named(alloc, name, found)
 }
 
 /// What the subcommand that was read asks for.

@@ -10,7 +10,7 @@ mod laws;
 mod promise;
 mod setting;
 
-pub use blamed::setting_at;
+pub use blamed::{base_given, setting_at};
 pub use command::{
     Adopting, CommandError, Course, Flight, Form, Looping, Packing, Request, Showing, Start,
     command_of,

@@ -1,16 +1,20 @@
 //! The settings of the command line (docs/REPORT.md).
 
-ghost use Rattle.std.specs.Prelude.{◌≡◌, ◌+◌, ◌≤◌, ◌==◌, ◌<◌, ◌/◌, ℕ, map, length, Some, IfOk, IfErr};
+ghost use Rattle.std.specs.Prelude.{◌≡◌, ◌+◌, ◌≤◌, ◌==◌, ◌<◌, ◌/◌, ℕ, map, length, option_and_then, Some, IfOk, IfErr};
 ghost use Rattle.std.specs.List.{position};
 ghost use Rattle.c62_command.specs.declared.setting.SettingError.TheVariants.{Memory};
-ghost use Rattle.c62_command.specs.Settings.{Adds, AreSettings, IsParted, IsBadAmong, address_of, bytes_in, cells, holds, form_named, is_whole, length_in, length_of, address_in, memory_settings, named_setting, parts, place_at, place_in, one, dump_setting, dumped, extent_in, print_as, print_setting, printed, register_setting, spans, set_at, settings_at, settings_in, size_named, value_of};
+ghost use Rattle.c62_command.specs.Settings.{Adds, AreSettings, IsParted, IsBadAmong, address_of, place_behind, place_of, base_after, base_among, base_at, base_in, base_of, base_said, base_setting, is_base, bytes_in, cells, holds, form_named, is_whole, length_in, length_of, address_in, memory_settings, named_setting, parts, place_at, place_in, one, dump_setting, dumped, extent_in, print_as, print_setting, printed, register_setting, spans, set_at, settings_at, settings_in, size_named, value_of};
 
 use c62_op::{Reg, word_of};
 use c62_token::number::{number, register};
 use std::alloc::{AllocError, AllocFailed, Global};
 
-/// What is set before a run: a register, or memory at an address that lies on the size of what is put there, below 65,536. Or what
-/// is printed below its report or written to files, which sets nothing.
+/// The last address at which memory can begin.
+const LAST_BASE: u32 = 0xffff_0000;
+
+/// What is set before a run: a register, where memory begins, or memory at a place that lies on the size of what is put there, below
+/// 65,536. Or what is printed below its report or written to files, which sets nothing. A place is so many bytes behind the address
+/// at which memory begins.
 #[derive(Clone, Copy, Debug, PartialEq, Eq)]
 pub enum Setting {
     Register(Reg, u32),
@@ -21,14 +25,16 @@ pub enum Setting {
     Word(u32, u32),
     Print(Print),
     Dump(Dump),
+    /// Memory begins at this address, a multiple of 4 from which it ends by 2^32.
+    Base(u32),
 }
 
 /// Values in memory that are printed below a report, one behind the other. Those that words ask for lie below 65,536, each on its
 /// size.
 #[derive(Clone, Copy, Debug, PartialEq, Eq)]
 pub struct Print {
-    /// The address of the first value.
-    pub address: u32,
+    /// The place of the first value.
+    pub place: u32,
     /// How many values are printed.
     pub count: u32,
     pub size: Size,
@@ -39,8 +45,8 @@ pub struct Print {
 /// Bytes of memory that are written to a file at the end of a run, one behind the other. Those that words ask for lie below 65,536.
 #[derive(Clone, Copy, Debug, PartialEq, Eq)]
 pub struct Dump {
-    /// The address of the first byte.
-    pub address: u32,
+    /// The place of the first byte.
+    pub place: u32,
     /// How many bytes are written.
     pub count: u32,
 }
@@ -81,15 +87,15 @@ impl Size {
         }
     }
 
-    /// Whether the address lies in memory, and on this size.
-    fn holds(self, address: u32) -> bool
-        ensures { result ≡ holds self address }
+    /// Whether the place lies in memory, and on this size.
+    fn holds(self, place: u32) -> bool
+        ensures { result ≡ holds self place }
     {
-        address <= 65_535
+        place <= 65_535
             && match self {
                 Size::Byte => true,
-                Size::Half => address % 2 == 0,
-                Size::Word => address % 4 == 0,
+                Size::Half => place % 2 == 0,
+                Size::Word => place % 4 == 0,
             }
     }
 
@@ -115,27 +121,45 @@ impl Size {
         }
     }
 
-    /// Puts the value at this address.
-    fn set(self, address: u32, value: u32) -> Setting
-        ensures { result ≡ set_at self address value }
+    /// Puts the value at this place.
+    fn set(self, place: u32, value: u32) -> Setting
+        ensures { result ≡ set_at self place value }
     {
         match self {
-            Size::Byte => Setting::Byte(address, value),
-            Size::Half => Setting::Half(address, value),
-            Size::Word => Setting::Word(address, value),
+            Size::Byte => Setting::Byte(place, value),
+            Size::Half => Setting::Half(place, value),
+            Size::Word => Setting::Word(place, value),
         }
     }
 }
 
-/// The number as an address in memory, where it is one.
+/// The number as an address, where it is one.
 fn address_of(number: i64) -> Option<u32>
     ensures { result ≡ address_of number }
 {
-    if 0 <= number && number <= 65_535 {
+    if 0 <= number && number <= 0xffff_ffff {
         Some(number as u32)
     } else {
         None
     }
+}
+
+/// The place of an address in memory that begins at this base, where it lies in it.
+fn place_behind(base: u32, address: u32) -> Option<u32>
+    ensures { result ≡ place_behind base address }
+{
+    if base <= address && address - base <= 65_535 {
+        Some(address - base)
+    } else {
+        None
+    }
+}
+
+/// The same of the address that a number is.
+fn place_of(base: u32, number: i64) -> Option<u32>
+    ensures { result ≡ place_of base number }
+{
+    place_behind(base, address_of(number)?)
 }
 
 /// The number that a text says, modulo 2^32.
@@ -158,11 +182,11 @@ fn size_named(name: &[u8]) -> Option<Size>
     }
 }
 
-/// The address that a text says, with this size.
-fn place_at(text: &[u8], size: Size) -> Option<(u32, Size)>
-    ensures { result ≡ place_at text.now size }
+/// The place of the address that a text says, with this size.
+fn place_at(base: u32, text: &[u8], size: Size) -> Option<(u32, Size)>
+    ensures { result ≡ place_at base text.now size }
 {
-    Some((address_of(number(text)?)?, size))
+    Some((place_of(base, number(text)?)?, size))
 }
 
 /// The index of the first colon.
@@ -172,15 +196,15 @@ fn colon(text: &[u8]) -> Option<usize>
     text.iter().position(|b| *b == b':')
 }
 
-/// What stands behind the `@` of a setting: an address in memory, 0 to 65,535, and the size behind a colon, or that of words. None where it
-/// is no address or no size.
+/// What stands behind the `@` of a setting: the place of an address in memory that begins at this base, and the size behind a colon, or
+/// that of words. None where it is no address or no size.
 #[tactic(auto, unfolding(crate::specs::Settings::place_in))]
-pub fn place_in(text: &[u8]) -> Option<(u32, Size)>
-    ensures { result ≡ place_in text.now }
+pub fn place_in(base: u32, text: &[u8]) -> Option<(u32, Size)>
+    ensures { result ≡ place_in base text.now }
 {
     match colon(text) {
-        None => place_at(text, Size::Word),
-        Some(colon) => place_at(&text[..colon], size_named(&text[colon + 1..])?),
+        None => place_at(base, text, Size::Word),
+        Some(colon) => place_at(base, &text[..colon], size_named(&text[colon + 1..])?),
     }
 }
 
@@ -201,28 +225,28 @@ pub fn first_part(text: &[u8]) -> (&[u8], Option<&[u8]>)
     }
 }
 
-/// Adds the values that a text says between its commas, one behind the other from an address on. Answers whether all are some.
+/// Adds the values that a text says between its commas, one behind the other from a place on. Answers whether all are some.
 fn push_cells(
     settings: &mut Vec<Setting>,
     size: Size,
-    address: u32,
+    place: u32,
     text: &[u8],
 ) -> Result<bool, AllocError>
-    ensures { IfOk result (Adds (cells size address (parts text.now)) settings.old.items settings.new.items) }
+    ensures { IfOk result (Adds (cells size place (parts text.now)) settings.old.items settings.new.items) }
 {
-    let mut address = address;
+    let mut place = place;
     let mut rest = text;
-    while size.holds(address) {
+    while size.holds(place) {
         let (part, behind) = first_part(rest);
         let Some(value) = value_of(part) else {
             return Ok(false);
         };
-        settings.push(size.set(address, value))?;
+        settings.push(size.set(place, value))?;
         let Some(behind) = behind else {
             return Ok(true);
         };
         rest = behind;
-        address += u32::from(size.bytes());
+        place += u32::from(size.bytes());
     }
     Ok(false)
 }
@@ -246,11 +270,11 @@ fn length_of(number: i64) -> Option<u32>
     }
 }
 
-/// The address that a text says.
-fn address_in(text: &[u8]) -> Option<u32>
-    ensures { result ≡ address_in text.now }
+/// The place of the address that a text says.
+fn address_in(base: u32, text: &[u8]) -> Option<u32>
+    ensures { result ≡ address_in base text.now }
 {
-    address_of(number(text)?)
+    place_of(base, number(text)?)
 }
 
 /// The number of bytes that a text says.
@@ -267,20 +291,20 @@ fn plus(text: &[u8]) -> Option<usize>
     text.iter().position(|b| *b == b'+')
 }
 
-/// Whether so many bytes from an address on lie in memory, and are values of this size.
-fn spans(size: Size, address: u32, length: u32) -> bool
-    ensures { result ≡ spans size address length }
+/// Whether so many bytes from a place on lie in memory, and are values of this size.
+fn spans(size: Size, place: u32, length: u32) -> bool
+    ensures { result ≡ spans size place length }
 {
-    size.holds(address) && size.is_whole(length) && u64::from(address) + u64::from(length) <= 65_536
+    size.holds(place) && size.is_whole(length) && u64::from(place) + u64::from(length) <= 65_536
 }
 
-/// The values of so many bytes from an address on.
-fn printed(address: u32, length: u32, size: Size, signed: bool) -> Option<Setting>
-    ensures { result ≡ printed address length size signed }
+/// The values of so many bytes from a place on.
+fn printed(place: u32, length: u32, size: Size, signed: bool) -> Option<Setting>
+    ensures { result ≡ printed place length size signed }
 {
-    if spans(size, address, length) {
+    if spans(size, place, length) {
         Some(Setting::Print(Print {
-            address,
+            place,
             count: size.count_in(length),
             size,
             signed,
@@ -290,20 +314,23 @@ fn printed(address: u32, length: u32, size: Size, signed: bool) -> Option<Settin
     }
 }
 
-/// The address and the number of bytes that a text says as `ADDRESS+LENGTH`.
-fn extent_in(text: &[u8]) -> Option<(u32, u32)>
-    ensures { result ≡ extent_in text.now }
+/// The place of the address and the number of bytes that a text says as `ADDRESS+LENGTH`.
+fn extent_in(base: u32, text: &[u8]) -> Option<(u32, u32)>
+    ensures { result ≡ extent_in base text.now }
 {
     let plus = plus(text)?;
-    Some((address_in(&text[..plus])?, length_in(&text[plus + 1..])?))
+    Some((
+        address_in(base, &text[..plus])?,
+        length_in(&text[plus + 1..])?,
+    ))
 }
 
 /// The values that a text says as `ADDRESS+LENGTH`, of this size.
-fn print_as(text: &[u8], size: Size, signed: bool) -> Option<Setting>
-    ensures { result ≡ print_as text.now size signed }
+fn print_as(base: u32, text: &[u8], size: Size, signed: bool) -> Option<Setting>
+    ensures { result ≡ print_as base text.now size signed }
 {
-    let (address, length) = extent_in(text)?;
-    printed(address, length, size, signed)
+    let (place, length) = extent_in(base, text)?;
+    printed(place, length, size, signed)
 }
 
 /// The size of values of this name, and whether they are printed as signed decimals.
@@ -327,25 +354,25 @@ fn form_named(name: &[u8]) -> Option<(Size, bool)>
 
 /// The values that a text says: `ADDRESS+LENGTH`, and their form behind a colon, or words.
 #[tactic(auto, unfolding(crate::specs::Settings::print_setting))]
-fn print_setting(text: &[u8]) -> Option<Setting>
-    ensures { result ≡ print_setting text.now }
+fn print_setting(base: u32, text: &[u8]) -> Option<Setting>
+    ensures { result ≡ print_setting base text.now }
 {
     match colon(text) {
-        None => print_as(text, Size::Word, false),
+        None => print_as(base, text, Size::Word, false),
         Some(colon) => {
             let (size, signed) = form_named(&text[colon + 1..])?;
-            print_as(&text[..colon], size, signed)
+            print_as(base, &text[..colon], size, signed)
         }
     }
 }
 
-/// So many bytes from an address on, which go to a file.
-fn dumped(address: u32, length: u32) -> Option<Setting>
-    ensures { result ≡ dumped address length }
+/// So many bytes from a place on, which go to a file.
+fn dumped(place: u32, length: u32) -> Option<Setting>
+    ensures { result ≡ dumped place length }
 {
-    if spans(Size::Byte, address, length) {
+    if spans(Size::Byte, place, length) {
         Some(Setting::Dump(Dump {
-            address,
+            place,
             count: length,
         }))
     } else {
@@ -354,31 +381,70 @@ fn dumped(address: u32, length: u32) -> Option<Setting>
 }
 
 /// The bytes that a text says as `ADDRESS+LENGTH`, which go to a file.
-fn dump_setting(text: &[u8]) -> Option<Setting>
-    ensures { result ≡ dump_setting text.now }
+fn dump_setting(base: u32, text: &[u8]) -> Option<Setting>
+    ensures { result ≡ dump_setting base text.now }
 {
-    let (address, length) = extent_in(text)?;
-    dumped(address, length)
+    let (place, length) = extent_in(base, text)?;
+    dumped(place, length)
 }
 
-/// What this text says of a name: what is printed, what goes to a file, or the value of a register.
-fn named_setting(name: &[u8], text: &[u8]) -> Option<Setting>
-    ensures { result ≡ named_setting name.now text.now }
+/// Whether memory can begin at this address: a multiple of 4, from which 65,536 bytes end by 2^32.
+fn is_base(address: u32) -> bool
+    ensures { result ≡ is_base address }
+{
+    address <= LAST_BASE && address % 4 == 0
+}
+
+/// The address, where memory can begin there.
+fn base_at(address: u32) -> Option<u32>
+    ensures { result ≡ base_at address }
+{
+    if is_base(address) {
+        Some(address)
+    } else {
+        None
+    }
+}
+
+/// The same of the address that a number is.
+fn base_of(number: i64) -> Option<u32>
+    ensures { result ≡ base_of number }
+{
+    base_at(address_of(number)?)
+}
+
+/// The address that a text says memory begins at.
+fn base_setting(text: &[u8]) -> Option<Setting>
+    ensures { result ≡ base_setting text.now }
+{
+    Some(Setting::Base(base_of(number(text)?)?))
+}
+
+/// What this text says of a name: what is printed, what goes to a file, where memory begins, or the value of a register.
+fn named_setting(base: u32, name: &[u8], text: &[u8]) -> Option<Setting>
+    ensures { result ≡ named_setting base name.now text.now }
 {
     if name == b"print".as_slice() {
-        print_setting(text)
+        print_setting(base, text)
     } else if name == b"dump".as_slice() {
-        dump_setting(text)
+        dump_setting(base, text)
+    } else if name == b"base".as_slice() {
+        base_setting(text)
     } else {
         register_setting(name, text)
     }
 }
 
 /// Adds what this text says of a name, where it says something.
-fn push_named(settings: &mut Vec<Setting>, name: &[u8], text: &[u8]) -> Result<bool, AllocError>
-    ensures { IfOk result (Adds (one (named_setting name.now text.now)) settings.old.items settings.new.items) }
+fn push_named(
+    settings: &mut Vec<Setting>,
+    base: u32,
+    name: &[u8],
+    text: &[u8],
+) -> Result<bool, AllocError>
+    ensures { IfOk result (Adds (one (named_setting base name.now text.now)) settings.old.items settings.new.items) }
 {
-    match named_setting(name, text) {
+    match named_setting(base, name, text) {
         Some(setting) => {
             settings.push(setting)?;
             Ok(true)
@@ -388,27 +454,34 @@ fn push_named(settings: &mut Vec<Setting>, name: &[u8], text: &[u8]) -> Result<b
 }
 
 /// Adds what is set in memory, where that is something.
-fn push_memory(settings: &mut Vec<Setting>, place: &[u8], text: &[u8]) -> Result<bool, AllocError>
-    ensures { IfOk result (Adds (memory_settings place.now text.now) settings.old.items settings.new.items) }
+fn push_memory(
+    settings: &mut Vec<Setting>,
+    base: u32,
+    name: &[u8],
+    text: &[u8],
+) -> Result<bool, AllocError>
+    ensures { IfOk result (Adds (memory_settings base name.now text.now) settings.old.items settings.new.items) }
 {
-    match place_in(place) {
-        Some((address, size)) => push_cells(settings, size, address, text),
+    match place_in(base, name) {
+        Some((place, size)) => push_cells(settings, size, place, text),
         None => Ok(false),
     }
 }
 
-/// Adds what is set where this text is put into a register or, behind an `@`, into memory, or what is printed or goes to a file.
+/// Adds what is set where this text is put into a register or, behind an `@`, into memory, or what is printed or goes to a file, or
+/// where memory begins.
 #[tactic(auto, unfolding(crate::specs::Settings::settings_at))]
 fn push_settings_at(
     settings: &mut Vec<Setting>,
+    base: u32,
     name: &[u8],
     text: &[u8],
 ) -> Result<bool, AllocError>
-    ensures { IfOk result (Adds (settings_at name.now text.now) settings.old.items settings.new.items) }
+    ensures { IfOk result (Adds (settings_at base name.now text.now) settings.old.items settings.new.items) }
 {
     match name.strip_prefix(b"@") {
-        Some(place) => push_memory(settings, place, text),
-        None => push_named(settings, name, text),
+        Some(place) => push_memory(settings, base, place, text),
+        None => push_named(settings, base, name, text),
     }
 }
 
@@ -420,18 +493,62 @@ pub fn equals_sign(text: &[u8]) -> Option<usize>
 }
 
 /// Adds the settings that a word says: `REG=NUMBER`, `@ADDRESS=NUMBER,..`, `@ADDRESS:h=NUMBER,..`, `@ADDRESS:b=NUMBER,..`,
-/// `print=ADDRESS+LENGTH` or `dump=ADDRESS+LENGTH`. Answers whether it says some.
+/// `print=ADDRESS+LENGTH`, `dump=ADDRESS+LENGTH` or `base=ADDRESS`, where memory begins at this base. Answers whether it says some.
 #[tactic(auto, unfolding(crate::specs::Settings::settings_in))]
-fn push_word(settings: &mut Vec<Setting>, text: &[u8]) -> Result<bool, AllocError>
-    ensures { IfOk result (Adds (settings_in text.now) settings.old.items settings.new.items) }
+fn push_word(settings: &mut Vec<Setting>, base: u32, text: &[u8]) -> Result<bool, AllocError>
+    ensures { IfOk result (Adds (settings_in base text.now) settings.old.items settings.new.items) }
 {
     match equals_sign(text) {
-        Some(equals) => push_settings_at(settings, &text[..equals], &text[equals + 1..]),
+        Some(equals) => push_settings_at(settings, base, &text[..equals], &text[equals + 1..]),
         None => Ok(false),
     }
 }
 
-/// The settings that the words say, in their order (docs/REPORT.md, "Settings").
+/// The address that this text says of a name memory begins at, where it says one.
+fn base_said(name: &[u8], text: &[u8]) -> Option<u32>
+    ensures { result ≡ base_said name.now text.now }
+{
+    if name == b"base".as_slice() {
+        base_of(number(text)?)
+    } else {
+        None
+    }
+}
+
+/// The address that a word says memory begins at, where it says one.
+#[tactic(auto, unfolding(crate::specs::Settings::base_in))]
+fn base_in(text: &[u8]) -> Option<u32>
+    ensures { result ≡ base_in text.now }
+{
+    match equals_sign(text) {
+        Some(equals) => base_said(&text[..equals], &text[equals + 1..]),
+        None => None,
+    }
+}
+
+/// Where memory begins by this word, where it began at a base by those before it.
+fn base_after(base: u32, text: &[u8]) -> u32
+    ensures { result ≡ base_after base text.now }
+{
+    match base_in(text) {
+        Some(said) => said,
+        None => base,
+    }
+}
+
+/// Where memory begins by these words: where the last says that says it, and otherwise at 0.
+pub(crate) fn base_among(texts: &[&str]) -> u32
+    ensures { result ≡ base_among (map (λ text. text.now) texts.now) }
+{
+    let mut base = 0;
+    for text in texts {
+        base = base_after(base, text.as_bytes());
+    }
+    base
+}
+
+/// The settings that the words say, in their order (docs/REPORT.md, "Settings"). Addresses are judged by where memory begins by all of
+/// them.
 ///
 /// # Errors
 ///
@@ -440,11 +557,12 @@ pub fn read_settings(alloc: Global, texts: &[&str]) -> Result<Vec<Setting>, Sett
     ensures ok { IfOk result (λ settings. AreSettings (map (λ text. text.now) texts.now) settings.items) }
     ensures err { IfErr result (IsBadAmong (map (λ text. text.now) texts.now)) }
 {
+    let base = base_among(texts);
     let mut settings = Vec::new(alloc);
     let mut number = 0;
     for text in texts {
         number += 1;
-        if !push_word(&mut settings, text.as_bytes())? {
+        if !push_word(&mut settings, base, text.as_bytes())? {
             return Err(SettingError::Bad(number));
         }
     }

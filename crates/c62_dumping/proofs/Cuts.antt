@@ -89,11 +89,12 @@ front_all machine (given.Byte address value ∷ settings) before = front_all mac
 front_all machine (given.Half address value ∷ settings) before = front_all machine settings before
 front_all machine (given.Word address value ∷ settings) before = front_all machine settings before
 front_all machine (given.Print print ∷ settings) before = front_all machine settings before
+front_all machine (given.Base base ∷ settings) before = front_all machine settings before
 front_all machine (given.Dump dump ∷ settings) before =
-    let mine = bytes_at machine dump.address dump.count in
+    let mine = bytes_at machine dump.place dump.count in
     let rest = dumps machine settings in
     let less : before + length (mine ++ rest) - dump.count ≡ before + length rest =
-    omega (arith, length-append mine rest, bytes_long machine dump.address dump.count) in
+    omega (arith, length-append mine rest, bytes_long machine dump.place dump.count) in
     ap (λ n. front_of n (counts_in settings)) less ∙ front_all machine settings before
 
 front_right : (report : List ℕ) (machine : Machine) (settings : List Given)
@@ -124,11 +125,12 @@ files_right names machine (given.Byte address value ∷ settings) same = files_r
 files_right names machine (given.Half address value ∷ settings) same = files_right names machine settings same
 files_right names machine (given.Word address value ∷ settings) same = files_right names machine settings same
 files_right names machine (given.Print print ∷ settings) same = files_right names machine settings same
+files_right names machine (given.Base base ∷ settings) same = files_right names machine settings same
 files_right [] machine (given.Dump dump ∷ settings) same = absurd (omega (arith, same))
 files_right (name ∷ names) machine (given.Dump dump ∷ settings) same =
-    let mine = bytes_at machine dump.address dump.count in
+    let mine = bytes_at machine dump.place dump.count in
     let rest = dumps machine settings in
-    let long = bytes_long machine dump.address dump.count in
+    let long = bytes_long machine dump.place dump.count in
     a_file name names dump.count (counts_in settings) (mine ++ rest)
     ∙ ap (λ b. (name, b) ∷ files_of names (counts_in settings) (drop dump.count (mine ++ rest)))
     (take_at mine rest dump.count long)

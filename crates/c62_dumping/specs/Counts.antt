@@ -16,7 +16,7 @@ counts_in settings = flat_map count_in settings
 
 -- the settings of what is asked for, which has some only as a run
 abbrev pub settings_asked : Ask → List Given
-settings_asked (SerialReport course settings) = settings
+settings_asked (SerialReport course settings apart) = settings
 settings_asked (PacketReport packing course settings) = settings
 settings_asked (StandingReport form course settings) = settings
 settings_asked (FlightReport course from settings) = settings

@@ -9,7 +9,7 @@ use Rattle.c62_files.specs.Words.{Text}
 
 -- the memory that a setting writes to a file, where it does
 abbrev pub memory_in : Machine → Given → List (List ℕ)
-memory_in machine (given.Dump dump) = bytes_at machine dump.address dump.count ∷ []
+memory_in machine (given.Dump dump) = bytes_at machine dump.place dump.count ∷ []
 memory_in machine _ = []
 
 -- the first of these names with the first of these contents, and so on

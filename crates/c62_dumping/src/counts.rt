@@ -18,7 +18,8 @@ fn push_count(counts: &mut Vec<usize>, setting: Setting) -> Result<(), AllocErro
         | Setting::Byte(_, _)
         | Setting::Half(_, _)
         | Setting::Word(_, _)
-        | Setting::Print(_) => Ok(()),
+        | Setting::Print(_)
+        | Setting::Base(_) => Ok(()),
     }
 }
 
@@ -42,7 +43,7 @@ pub fn counts_asked(alloc: Global, request: &Request) -> Result<Vec<usize>, Allo
     ensures { IfOk result (λ counts. counts.items ≡ counts_asked (ask_of request.now)) }
 {
     match request {
-        Request::Run(_, start) | Request::Serial(start) | Request::Sim(_, start) => {
+        Request::Run(_, start) | Request::Serial(start, _) | Request::Sim(_, start) => {
             counts_in(alloc, &start.settings)
         }
         Request::Exec(start) => counts_in(alloc, &start.settings),

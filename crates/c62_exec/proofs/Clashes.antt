@@ -156,7 +156,7 @@ clash_of_run block opening t =
     clash_is (the_run block opening) t block (λ p h.
     subst (λ (a : Act). length (due_of t p.cycle p.line a.writes) ≤ 1)
     (sym (the_run_runs block opening p (Contains_from_In p block h)))
-    (few_due t p.cycle p.line p.insn (word_before block opening (the_run block opening) p.cycle)
+    (few_due t p.cycle p.line p.insn opening.base (word_before block opening (the_run block opening) p.cycle)
     (byte_before block opening (the_run block opening) p.cycle)))
 
 -- a cycle behind the last issue is broken by a clash alone

@@ -49,6 +49,7 @@ module _ (block : List Placed) (opening : Machine) (ascends : Ascends block) whe
       → LeavesState block cycle opening (the_run block opening) machine
   leaves cycle upto flight machine h = record {
     sound = h.sound;
+    base = h.base;
     words = h.words;
     bytes = λ a _. h.bytes a;
     faults = λ line.

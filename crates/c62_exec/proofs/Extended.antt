@@ -105,6 +105,7 @@ module _ (opening : Machine) (cycle : ℕ) (block new : List Placed) (early : Ea
         record {
           within = omega (arith, length-append block new);
           sound = h.sound;
+          base = h.base;
           words = λ reg. h.words reg ∙ sym (words_same reg);
           bytes = λ a. h.bytes a ∙ sym (bytes_same a);
           pending = λ a.

@@ -15,18 +15,18 @@ use Rattle.c62_faulted.specs.declared.fault.Cause.{Cause}
 use Rattle.c62_faulted.specs.declared.fault.Cause.TheVariants.{Misaligned, PastEnd}
 use Rattle.c62_faulted.specs.declared.fault.Fault.{Fault}
 
--- why an access of so many bytes faults at an address, where it does
+-- why an access of so many bytes faults at a place, where it does
 abbrev pub cause_of : ℕ → ℕ → Option Cause
-cause_of address size =
-    if not (address % size == 0) then Some Misaligned
-    else (if nat_le (address + size) MEMORY_BYTES then None else Some PastEnd)
+cause_of place size =
+    if not (place % size == 0) then Some Misaligned
+    else (if nat_le (place + size) MEMORY_BYTES then None else Some PastEnd)
 
--- the access of an instruction as a fault of this cause
+-- the access of an instruction, by its place, as a fault of this cause
 abbrev pub fault_of : SerialInsn → Access → Cause → Fault
 fault_of entry access cause = record {
   line = entry.line;
   op = op_of entry.insn;
-  address = access.address;
+  place = access.address;
   size = access.size;
   cause = cause;
 }

@@ -1,6 +1,7 @@
 -- What is said of an access that faulted (docs/REPORT.md, "Accesses that fault").
 use Rattle.std.specs.Prelude.{ℕ, Bool, true, false, ◌==◌, List, ◌++◌, codes, decimal, if◌then◌else◌}
 use Rattle.std.specs.Fmt.{digits}
+use Rattle.c62_op.specs.Word.{sum}
 use Rattle.c62_op.specs.Shape.{is_store}
 use Rattle.c62_op.specs.Table.{mnemonic_of}
 use Rattle.c62_faulted.specs.declared.fault.Cause.{Cause}
@@ -25,7 +26,7 @@ abbrev pub cause_text : Cause → (size : ℕ) → List ℕ
 cause_text Misaligned size = codes ", no multiple of " ++ decimal size
 cause_text PastEnd size = codes ", past the end of memory"
 
--- `line L: STW writes 4 bytes at 0x10000, past the end of memory`
-abbrev pub fault_text : Fault → List ℕ
-fault_text fault =
-    access_text fault ++ codes " at 0x" ++ digits 16 false fault.address ++ cause_text fault.cause fault.size ++ codes "\n"
+-- `line L: STW writes 4 bytes at 0x10000, past the end of memory`, where memory begins at a base
+abbrev pub fault_text : (base : ℕ) → Fault → List ℕ
+fault_text base fault =
+    access_text fault ++ codes " at 0x" ++ digits 16 false (sum base fault.place) ++ cause_text fault.cause fault.size ++ codes "\n"

@@ -1,7 +1,7 @@
 //! Accesses that fault.
 
 ghost use Rattle.std.specs.Prelude.{◌≡◌, IsTrue, OnOk, Some};
-ghost use Rattle.c62_serial.specs.Memory.{is_size};
+ghost use Rattle.c62_serial.specs.Memory.{is_size, place_in};
 ghost use Rattle.c62_faulted.specs.Faulted.{cause_of, fault_by, fault_in, has_line, with_fault};
 
 use c62_insn::{Access, Action};
@@ -15,7 +15,7 @@ use std::alloc::AllocError;
 pub enum Cause {
     /// Its address is no multiple of its size.
     Misaligned,
-    /// It is aligned, and reaches past the end of memory.
+    /// It is aligned, and not within memory: it reaches past its end, or begins below its begin.
     PastEnd,
 }
 
@@ -26,29 +26,29 @@ pub struct Fault {
     pub line: u32,
     /// The operation, a load or a store.
     pub op: Op,
-    /// The byte at which it began.
-    pub address: u32,
+    /// The place of the byte at which it began: how far it lies behind the begin of memory, modulo 2^32.
+    pub place: u32,
     /// How many bytes it has: 1, 2 or 4.
     pub size: u8,
     pub cause: Cause,
 }
 
-/// Why an access of so many bytes faults at this address, where it does.
-fn cause_of(address: u32, size: u8) -> Option<Cause>
+/// Why an access of so many bytes faults at this place, where it does.
+fn cause_of(place: u32, size: u8) -> Option<Cause>
     requires { IsTrue (is_size size) }
-    ensures { result ≡ cause_of address size }
+    ensures { result ≡ cause_of place size }
 {
     let size = u32::from(size);
-    if address % size != 0 {
+    if place % size != 0 {
         Some(Cause::Misaligned)
-    } else if address > MEMORY_BYTES as u32 - size {
+    } else if place > MEMORY_BYTES as u32 - size {
         Some(Cause::PastEnd)
     } else {
         None
     }
 }
 
-/// The fault of an access of an instruction, if it has one.
+/// The fault of an access of an instruction, by its place, if it has one.
 fn fault_by(entry: &SerialInsn, access: Access) -> Option<Fault>
     requires { IsTrue (is_size access.size) }
     ensures { result ≡ fault_by entry.now (Some access) }
@@ -57,10 +57,21 @@ fn fault_by(entry: &SerialInsn, access: Access) -> Option<Fault>
     Some(Fault {
         line: entry.line,
         op: entry.insn.op(),
-        address: access.address,
+        place: access.address,
         size: access.size,
         cause,
     })
+}
+
+/// The access with its place for its address.
+fn placed(access: Access, state: &State) -> Access
+    ensures { result ≡ record access { address = place_in state.now.machine access.address } }
+{
+    Access {
+        address: state.place(access.address),
+        size: access.size,
+        value: access.value,
+    }
 }
 
 /// The fault of what an instruction does now, if it has one.
@@ -68,7 +79,7 @@ fn fault_in(entry: &SerialInsn, state: &State) -> Option<Fault>
     ensures { result ≡ fault_in state.now.machine entry.now }
 {
     match entry.insn.action(state.registers())? {
-        Action::Transfer(transfer) => fault_by(entry, transfer.access),
+        Action::Transfer(transfer) => fault_by(entry, placed(transfer.access, state)),
         Action::Write(_, _) | Action::Branch(_) => None,
     }
 }

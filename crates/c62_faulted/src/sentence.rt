@@ -64,27 +64,32 @@ fn push_cause(out: &mut Vec<u8>, cause: Cause, size: u8) -> Result<(), AllocErro
     }
 }
 
-/// A line for this fault.
-fn push_fault(out: &mut Vec<u8>, alloc: Global, fault: Fault) -> Result<(), AllocError>
-    ensures { OnOk result (out.new.items ≡ out.old.items ++ fault_text fault) }
+/// A line for this fault, where memory begins at a base.
+fn push_fault(out: &mut Vec<u8>, alloc: Global, base: u32, fault: Fault) -> Result<(), AllocError>
+    ensures { OnOk result (out.new.items ≡ out.old.items ++ fault_text base fault) }
 {
     push_access(out, fault)?;
-    let address = fault.address;
+    let address = base.wrapping_add(fault.place);
     out.extend_from_slice(format!(in alloc; " at 0x{address:x}")?.as_bytes())?;
     push_cause(out, fault.cause, fault.size)?;
     out.extend_from_slice(b"\n")
 }
 
-/// A line `line L: LDH reads 2 bytes at 0x1, no multiple of 2` for each of these faults.
+/// A line `line L: LDH reads 2 bytes at 0x1, no multiple of 2` for each of these faults, where memory begins at a base.
 ///
 /// # Errors
 ///
 /// `AllocError` where memory ran out.
-pub fn push_faults(out: &mut Vec<u8>, alloc: Global, faults: &[Fault]) -> Result<(), AllocError>
-    ensures { OnOk result (out.new.items ≡ out.old.items ++ flat_map fault_text faults.now) }
+pub fn push_faults(
+    out: &mut Vec<u8>,
+    alloc: Global,
+    base: u32,
+    faults: &[Fault],
+) -> Result<(), AllocError>
+    ensures { OnOk result (out.new.items ≡ out.old.items ++ flat_map (fault_text base) faults.now) }
 {
     for fault in faults {
-        push_fault(out, alloc, *fault)?;
+        push_fault(out, alloc, base, *fault)?;
     }
     Ok(())
 }

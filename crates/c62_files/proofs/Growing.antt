@@ -8,40 +8,41 @@ use Rattle.std.proofs.lemmas.List.{append-nil, drop_more, get_or-map, length-map
 use Rattle.std.proofs.lemmas.List.Sums.{count_by_more_no, count_by_more_yes}
 use Rattle.std.proofs.lemmas.Option.{slice_get-get_or, slice_get-map}
 use Rattle.c62_files.specs.declared.piece.Piece.{Piece}
-use Rattle.c62_files.specs.Words.{Text, Word, Plain, InputName, OutputName, SettingsName, Loads, Prints, Dumps}
+use Rattle.c62_files.specs.Words.{Text, Word, Plain, InputName, OutputName, SettingsName, Loads, Prints, Dumps, Begins}
 use Rattle.c62_files.specs.Words.{text_piece}
 use Rattle.c62_files.specs.declared.load.Stopped.{Stopped}
 use Rattle.c62_files.specs.declared.load.Stopped.TheVariants.{Unread as NotRead, Misfit as NotFit}
-use Rattle.c62_files.specs.Expand.{Expands, Gives, Holding, IsGrown, IsStoppedAt, IsUnexpanded, is_load, numbered}
+use Rattle.c62_files.specs.Expand.{ExpandsFrom, Gives, Holding, IsGrown, IsStoppedAt, IsUnexpanded, begin_among}
+use Rattle.c62_files.specs.Expand.{is_load, numbered}
 
-grow : (holds : Holding) (all : List Word) (done mine : List Text) (piece : Word) (rest : List Word)
-    → Gives holds piece mine
-    → IsGrown holds all done (piece ∷ rest) → IsGrown holds all (done ++ mine) rest
-unfolding Expands
-grow holds all done mine piece rest gives so_far words e =
+grow : (base : ℕ) (holds : Holding) (all : List Word) (done mine : List Text) (piece : Word) (rest : List Word)
+    → Gives base holds piece mine
+    → IsGrown base holds all done (piece ∷ rest) → IsGrown base holds all (done ++ mine) rest
+unfolding ExpandsFrom
+grow base holds all done mine piece rest gives so_far words e =
     rw (append_assoc done mine words) (so_far (mine ++ words) (mine, words, gives, e, refl))
 
-pub grown_at_first : (holds : Holding) (all : List Word) → IsGrown holds all [] all
-grown_at_first holds all words e = e
+pub grown_at_first : (base : ℕ) (holds : Holding) (all : List Word) → IsGrown base holds all [] all
+grown_at_first base holds all words e = e
 
-pub grown_more : (holds : Holding) (all : List Word) (pieces : List Piece) (i : ℕ) (d piece : Piece)
+pub grown_more : (base : ℕ) (holds : Holding) (all : List Word) (pieces : List Piece) (i : ℕ) (d piece : Piece)
     (done mine new : List Text) → i < length pieces
-    → piece ≡ get_or pieces i d → Gives holds (text_piece piece) mine → new ≡ done ++ mine
-    → IsGrown holds all done (map text_piece (drop i pieces))
-    → IsGrown holds all new (map text_piece (drop (i + 1) pieces))
-grown_more holds all pieces i d piece done mine new within is gives added so_far =
+    → piece ≡ get_or pieces i d → Gives base holds (text_piece piece) mine → new ≡ done ++ mine
+    → IsGrown base holds all done (map text_piece (drop i pieces))
+    → IsGrown base holds all new (map text_piece (drop (i + 1) pieces))
+grown_more base holds all pieces i d piece done mine new within is gives added so_far =
     let here : map text_piece (drop i pieces) ≡ text_piece piece ∷ map text_piece (drop (i + 1) pieces) =
     ap (map text_piece) (drop_more pieces i d within)
     ∙ ap (λ p. text_piece p ∷ map text_piece (drop (i + 1) pieces)) (sym is) in
-    subst (λ xs. IsGrown holds all xs (map text_piece (drop (i + 1) pieces))) (sym added)
-    (grow holds all done mine (text_piece piece) (map text_piece (drop (i + 1) pieces)) gives
-    (subst (IsGrown holds all done) here so_far))
+    subst (λ xs. IsGrown base holds all xs (map text_piece (drop (i + 1) pieces))) (sym added)
+    (grow base holds all done mine (text_piece piece) (map text_piece (drop (i + 1) pieces)) gives
+    (subst (IsGrown base holds all done) here so_far))
 
-pub all_grown : (holds : Holding) (all : List Word) (done : List Text) (rest : List Word) → rest ≡ []
-    → IsGrown holds all done rest → Expands holds all done
-unfolding Expands
-all_grown holds all done rest none so_far =
-    subst (Expands holds all) (append-nil done) (so_far [] (rw none refl))
+pub all_grown : (base : ℕ) (holds : Holding) (all : List Word) (done : List Text) (rest : List Word) → rest ≡ []
+    → IsGrown base holds all done rest → ExpandsFrom base holds all done
+unfolding ExpandsFrom
+all_grown base holds all done rest none so_far =
+    subst (ExpandsFrom base holds all) (append-nil done) (so_far [] (rw none refl))
 
 -- ---- loads
 
@@ -72,7 +73,8 @@ loads_few loads i word few =
 
 stopped_word : (holds : Holding) (pieces : List Piece) (i loads : ℕ) (word : Word) (stopped : Stopped)
     → slice_get (map text_piece pieces) i ≡ Some word
-    → loads ≡ count_by is_load (take i (map text_piece pieces)) → IsStoppedAt holds word stopped
+    → loads ≡ count_by is_load (take i (map text_piece pieces))
+    → IsStoppedAt (begin_among (map text_piece pieces)) holds word stopped
     → IsUnexpanded holds (map text_piece pieces) (numbered (loads + 1) stopped)
 stopped_word holds pieces i loads word (NotRead unread) stands counted why = record
     { at = i; word = word; stands = stands; why = why }
@@ -84,10 +86,12 @@ stopped_word holds pieces i loads (OutputName word) (NotFit misfit) stands count
 stopped_word holds pieces i loads (SettingsName word) (NotFit misfit) stands counted why = absurd why
 stopped_word holds pieces i loads (Prints word) (NotFit misfit) stands counted why = absurd why
 stopped_word holds pieces i loads (Dumps word) (NotFit misfit) stands counted why = absurd why
+stopped_word holds pieces i loads (Begins word) (NotFit misfit) stands counted why = absurd why
 
 pub stopped_at : (holds : Holding) (pieces : List Piece) (i loads : ℕ) (d piece : Piece) (stopped : Stopped)
     → i < length pieces → piece ≡ get_or pieces i d
-    → loads ≡ count_by is_load (take i (map text_piece pieces)) → IsStoppedAt holds (text_piece piece) stopped
+    → loads ≡ count_by is_load (take i (map text_piece pieces))
+    → IsStoppedAt (begin_among (map text_piece pieces)) holds (text_piece piece) stopped
     → IsUnexpanded holds (map text_piece pieces) (numbered (loads + 1) stopped)
 stopped_at holds pieces i loads d piece stopped within is counted why =
     stopped_word holds pieces i loads (text_piece piece) stopped

@@ -5,7 +5,7 @@ use Rattle.std.specs.Option.{option_map_or, option_to_list}
 use Rattle.std.specs.Str.{bytes_eq}
 use Rattle.std.specs.Borrow.{Bor}
 use Rattle.c62_files.specs.declared.wanted.Wanted.{Wanted}
-use Rattle.c62_files.specs.declared.wanted.Wanted.TheVariants.{Command, Nothing, Value, Output, Settings, Load, Print, Dump, Help}
+use Rattle.c62_files.specs.declared.wanted.Wanted.TheVariants.{Command, Nothing, Value, Output, Settings, Load, Print, Dump, Base, Help}
 use Rattle.c62_files.specs.declared.piece.Piece.{Piece}
 use Rattle.c62_files.specs.declared.piece.Piece.TheVariants as given
 
@@ -31,20 +31,22 @@ wanted_by word =
     else (if bytes_eq word (codes "--load") then Load
     else (if bytes_eq word (codes "--print") then Print
     else (if bytes_eq word (codes "--dump") then Dump
+    else (if bytes_eq word (codes "--base") then Base
     else (if takes_value word then Value
-    else Nothing)))))
+    else Nothing))))))
 
 -- what the command wants: behind `help` no word names a file
 abbrev pub wanted_by_command : Text → Wanted
 wanted_by_command command = if bytes_eq command (codes "help") then Help else Nothing
 
--- the option that wants a word of its own: the name of a file, or what is printed or goes to a file
+-- the option that wants a word of its own: the name of a file, what is printed or goes to a file, or where memory begins
 abbrev pub option_of : Wanted → Option Text
 option_of Output = Some (codes "-o")
 option_of Settings = Some (codes "--settings")
 option_of Load = Some (codes "--load")
 option_of Print = Some (codes "--print")
 option_of Dump = Some (codes "--dump")
+option_of Base = Some (codes "--base")
 option_of _ = None
 
 -- A file's name is no option, which begins with `-`, and no setting, which has a `=`. A lone `-` is standard input.
@@ -68,6 +70,8 @@ pub data Word : Type 0 where
   Prints : Text → Word
   -- an address and a length of memory, and the name of the file that it goes to
   Dumps : Text → Word
+  -- the address at which memory begins
+  Begins : Text → Word
 
 abbrev pub text_piece : Piece → Word
 text_piece (given.Plain word) = Plain word.now
@@ -77,6 +81,7 @@ text_piece (given.Settings name) = SettingsName name.now
 text_piece (given.Load word) = Loads word.now
 text_piece (given.Print word) = Prints word.now
 text_piece (given.Dump word) = Dumps word.now
+text_piece (given.Base word) = Begins word.now
 
 -- what a word is by itself
 abbrev pub lone : Text → Word
@@ -89,6 +94,7 @@ wanting Settings word = None
 wanting Load word = None
 wanting Print word = None
 wanting Dump word = None
+wanting Base word = None
 wanting Value word = Some (Plain word)
 wanting _ word = Some (lone word)
 
@@ -99,6 +105,7 @@ piece_at Settings word = Some (SettingsName word)
 piece_at Load word = Some (Loads word)
 piece_at Print word = Some (Prints word)
 piece_at Dump word = Some (Dumps word)
+piece_at Base word = Some (Begins word)
 piece_at Nothing word = wanting (wanted_by word) word
 piece_at _ word = Some (Plain word)
 

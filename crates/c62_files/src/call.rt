@@ -68,7 +68,8 @@ fn push_input<'a>(names: &mut Vec<&'a str>, piece: &Piece<'a>) -> Result<(), All
         | Piece::Settings(_)
         | Piece::Load(_)
         | Piece::Print(_)
-        | Piece::Dump(_) => Ok(()),
+        | Piece::Dump(_)
+        | Piece::Base(_) => Ok(()),
     }
 }
 
@@ -94,7 +95,8 @@ fn push_output<'a>(names: &mut Vec<&'a str>, piece: &Piece<'a>) -> Result<(), Al
         | Piece::Settings(_)
         | Piece::Load(_)
         | Piece::Print(_)
-        | Piece::Dump(_) => Ok(()),
+        | Piece::Dump(_)
+        | Piece::Base(_) => Ok(()),
     }
 }
 
@@ -130,7 +132,8 @@ fn push_dump<'a>(names: &mut Vec<&'a str>, piece: &Piece<'a>) -> Result<(), Allo
         | Piece::Output(_)
         | Piece::Settings(_)
         | Piece::Load(_)
-        | Piece::Print(_) => Ok(()),
+        | Piece::Print(_)
+        | Piece::Base(_) => Ok(()),
     }
 }
 

@@ -4,12 +4,12 @@ ghost use Rattle.std.specs.Prelude.{◌≡◌, ◌++◌, ◌∷◌, ◌≤◌, �
 ghost use Rattle.std.specs.Str.Lossy.{utf8_lossy};
 ghost use Rattle.c62_files.specs.Words.{Text, text_piece};
 ghost use Rattle.c62_files.specs.Settings.{settings_words};
-ghost use Rattle.c62_files.specs.Expand.{Expands, Gives, IsStoppedAt, IsUnexpanded, is_load, numbered};
+ghost use Rattle.c62_files.specs.Expand.{Expands, Gives, IsStoppedAt, IsUnexpanded, begin_after, begin_among, begin_by, is_load, numbered};
 ghost use Rattle.c62_files.specs.declared.folder.FileError.TheVariants.{Memory};
 
 use crate::dump::extent_of;
 use crate::folder::{FileError, Folder};
-use crate::load::{Misfit, Stopped, push_load};
+use crate::load::{Misfit, Stopped, address_of, push_load};
 use crate::piece::Piece;
 use crate::settings::settings_words;
 use std::alloc::{AllocError, Global};
@@ -90,16 +90,17 @@ fn push_setting(
     Ok(())
 }
 
-/// Adds what stands in the place of a word.
+/// Adds what stands in the place of a word, where memory begins at a base.
 fn push_words<'a, F: Folder>(
     alloc: Global,
     folder: &F,
     words: &mut Vec<String>,
+    base: u64,
     piece: &Piece<'a>,
 ) -> Result<(), Stopped<'a>>
-    ensures ok { OnOk result ((mine : List Text) × Gives (F.holds folder.now) (text_piece piece.now) mine
+    ensures ok { OnOk result ((mine : List Text) × Gives base (F.holds folder.now) (text_piece piece.now) mine
         × (map string_bytes words.new.items ≡ map string_bytes words.old.items ++ mine)) }
-    ensures stopped { IfErr result (IsStoppedAt (F.holds folder.now) (text_piece piece.now)) }
+    ensures stopped { IfErr result (IsStoppedAt base (F.holds folder.now) (text_piece piece.now)) }
 {
     match piece {
         Piece::Plain(word) => Ok(push_word(alloc, words, *word)?),
@@ -107,11 +108,49 @@ fn push_words<'a, F: Folder>(
             Ok(bytes) => Ok(push_settings(alloc, words, &bytes)?),
             Err(error) => Err(Stopped::Unread(Unread { name: *name, error })),
         },
-        Piece::Load(word) => push_load(alloc, folder, words, *word),
+        Piece::Load(word) => push_load(alloc, folder, words, base, *word),
         Piece::Print(word) => Ok(push_setting(alloc, words, "print=", *word)?),
         Piece::Dump(word) => Ok(push_setting(alloc, words, "dump=", extent_of(*word))?),
+        Piece::Base(word) => Ok(push_setting(alloc, words, "base=", *word)?),
         Piece::Input(_) | Piece::Output(_) => Ok(()),
     }
+}
+
+/// The address at which a word lets memory begin.
+fn begin_by(piece: &Piece<'_>) -> Option<u64>
+    ensures { result ≡ begin_by (text_piece piece.now) }
+{
+    match piece {
+        Piece::Base(word) => address_of(*word),
+        Piece::Plain(_)
+        | Piece::Settings(_)
+        | Piece::Input(_)
+        | Piece::Output(_)
+        | Piece::Load(_)
+        | Piece::Print(_)
+        | Piece::Dump(_) => None,
+    }
+}
+
+/// Where memory begins by this word, where it began at a base by those before it.
+fn begin_after(base: u64, piece: &Piece<'_>) -> u64
+    ensures { result ≡ begin_after base (text_piece piece.now) }
+{
+    match begin_by(piece) {
+        Some(begin) => begin,
+        None => base,
+    }
+}
+
+/// Where memory begins by these words: where the last says that says it, and otherwise at 0.
+fn begin_among(pieces: &[Piece<'_>]) -> u64
+    ensures { result ≡ begin_among (map text_piece pieces.now) }
+{
+    let mut base = 0;
+    for piece in pieces {
+        base = begin_after(base, piece);
+    }
+    base
 }
 
 /// What stopped at a word, where that is the load of this number if it is one.
@@ -136,12 +175,13 @@ fn loads_with(loads: usize, piece: &Piece<'_>) -> usize
         | Piece::Input(_)
         | Piece::Output(_)
         | Piece::Print(_)
-        | Piece::Dump(_) => loads,
+        | Piece::Dump(_)
+        | Piece::Base(_) => loads,
     }
 }
 
-/// The words of a call, with those of its files of settings in their places, and with settings for the files that it loads, and for
-/// what it prints or writes to files.
+/// The words of a call, with those of its files of settings in their places, and with settings for the files that it loads, for what it
+/// prints or writes to files, and for where memory begins. Files are loaded where `--base` lets it begin.
 ///
 /// # Errors
 ///
@@ -155,10 +195,11 @@ pub fn expanded<'a, F: Folder>(
     ensures ok { IfOk result (λ words. Expands (F.holds folder.now) (map text_piece pieces.now) (map string_bytes words.items)) }
     ensures err { IfErr result (IsUnexpanded (F.holds folder.now) (map text_piece pieces.now)) }
 {
+    let base = begin_among(pieces);
     let mut words = Vec::new(alloc);
     let mut loads = 0;
     for piece in pieces {
-        if let Err(stopped) = push_words(alloc, folder, &mut words, piece) {
+        if let Err(stopped) = push_words(alloc, folder, &mut words, base, piece) {
             return Err(numbered(loads + 1, stopped));
         }
         loads = loads_with(loads, piece);

@@ -1,6 +1,6 @@
 //! Files whose bytes are put into memory (docs/COMMANDS.md, "Files").
 
-ghost use Rattle.std.specs.Prelude.{◌≡◌, ◌++◌, List, IfOk, IfErr, MatchOption, OnOk, codes, decimal, map, string_bytes};
+ghost use Rattle.std.specs.Prelude.{◌≡◌, ◌+◌, ◌++◌, nat_le, List, IfOk, IfErr, MatchOption, OnOk, codes, decimal, map, string_bytes};
 ghost use Rattle.std.specs.List.{flat_map};
 ghost use Rattle.c62_files.specs.Words.{Text, Loads};
 ghost use Rattle.c62_files.specs.Expand.{IsStoppedAt};
@@ -61,18 +61,25 @@ fn natural(number: i64) -> Option<u64>
 }
 
 /// The address that a text says.
-fn address_of(text: &str) -> Option<u64>
+pub(crate) fn address_of(text: &str) -> Option<u64>
     ensures { result ≡ address_of text.now }
 {
     natural(number(text.as_bytes())?)
 }
 
-/// Whether so many bytes from an address on lie in memory.
-fn fits(address: u64, count: usize) -> bool
-    ensures { result ≡ fits address count }
+/// Whether so many bytes from a place on lie in memory.
+fn fits_behind(place: u64, count: usize) -> bool
+    ensures { result ≡ nat_le (place + count) 65536 }
 {
     let end = MEMORY_BYTES as u64;
-    address <= end && count as u64 <= end - address
+    place <= end && count as u64 <= end - place
+}
+
+/// Whether so many bytes from an address on lie in memory that begins at a base.
+fn fits(base: u64, address: u64, count: usize) -> bool
+    ensures { result ≡ fits base address count }
+{
+    base <= address && fits_behind(address - base, count)
 }
 
 /// Adds a number.
@@ -121,7 +128,7 @@ fn push_bytes(
     }
 }
 
-/// Adds the setting that stands for `ADDRESS=NAME`. Of a file longer than memory a byte more than that has is read.
+/// Adds the setting that stands for `ADDRESS=NAME` where memory begins at a base. Of a file longer than memory a byte more than that has is read.
 ///
 /// # Errors
 ///
@@ -130,11 +137,12 @@ pub(crate) fn push_load<'a, F: Folder>(
     alloc: Global,
     folder: &F,
     words: &mut Vec<String>,
+    base: u64,
     word: &'a str,
 ) -> Result<(), Stopped<'a>>
-    ensures ok { OnOk result ((mine : List Text) × AreLoaded (F.holds folder.now) word.entry.now mine
+    ensures ok { OnOk result ((mine : List Text) × AreLoaded base (F.holds folder.now) word.entry.now mine
         × (map string_bytes words.new.items ≡ map string_bytes words.old.items ++ mine)) }
-    ensures stopped { IfErr result (IsStoppedAt (F.holds folder.now) (Loads word.entry.now)) }
+    ensures stopped { IfErr result (IsStoppedAt base (F.holds folder.now) (Loads word.entry.now)) }
 {
     let Some((place, name)) = parts_of(word) else {
         return Err(Stopped::Misfit(Misfit::Bad));
@@ -146,7 +154,7 @@ pub(crate) fn push_load<'a, F: Folder>(
         Ok(bytes) => bytes,
         Err(error) => return Err(Stopped::Unread(Unread { name, error })),
     };
-    if !fits(address, bytes.len()) {
+    if !fits(base, address, bytes.len()) {
         return Err(Stopped::Misfit(Misfit::PastEnd));
     }
     Ok(push_bytes(alloc, words, place, &bytes)?)

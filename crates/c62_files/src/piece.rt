@@ -26,6 +26,8 @@ pub enum Piece<'a> {
     Print(&'a str),
     /// Behind `--dump`: `ADDRESS+LENGTH=NAME`, where so many bytes of memory from this address on go to the file of this name.
     Dump(&'a str),
+    /// Behind `--base`: the address at which memory begins.
+    Base(&'a str),
 }
 
 /// What words are, and what the last of them wants of a word that isn't there.
@@ -76,8 +78,14 @@ fn piece_at<'a>(wanted: Wanted, word: &'a str) -> Option<Piece<'a>>
         Wanted::Load => Some(Piece::Load(word)),
         Wanted::Print => Some(Piece::Print(word)),
         Wanted::Dump => Some(Piece::Dump(word)),
+        Wanted::Base => Some(Piece::Base(word)),
         Wanted::Nothing => match Wanted::by(word) {
-            Wanted::Output | Wanted::Settings | Wanted::Load | Wanted::Print | Wanted::Dump => None,
+            Wanted::Output
+            | Wanted::Settings
+            | Wanted::Load
+            | Wanted::Print
+            | Wanted::Dump
+            | Wanted::Base => None,
             Wanted::Value => Some(Piece::Plain(word)),
             Wanted::Command | Wanted::Nothing | Wanted::Help => Some(lone(word)),
         },
@@ -96,7 +104,8 @@ fn wanted_after(wanted: Wanted, word: &str) -> Wanted
         | Wanted::Settings
         | Wanted::Load
         | Wanted::Print
-        | Wanted::Dump => Wanted::Nothing,
+        | Wanted::Dump
+        | Wanted::Base => Wanted::Nothing,
         Wanted::Nothing => Wanted::by(word),
     }
 }

@@ -22,6 +22,8 @@ pub enum Wanted {
     Print,
     /// An address and a length of memory, and the name of the file that it goes to: behind `--dump`.
     Dump,
+    /// The address at which memory begins: behind `--base`.
+    Base,
     /// A word for the command, and so are all behind it: behind `help`.
     Help,
 }
@@ -52,6 +54,8 @@ impl Wanted {
             Wanted::Print
         } else if word == "--dump" {
             Wanted::Dump
+        } else if word == "--base" {
+            Wanted::Base
         } else if word == "--eject"
             || word == "--search"
             || word == "--blocks"
@@ -68,7 +72,7 @@ impl Wanted {
         }
     }
 
-    /// The option that wants a word of its own: the name of a file, or what is printed or goes to a file.
+    /// The option that wants a word of its own: the name of a file, what is printed or goes to a file, or where memory begins.
     pub fn option(self) -> Option<&'static str>
         ensures { option_map (λ option. option.now) result ≡ option_of self }
     {
@@ -78,6 +82,7 @@ impl Wanted {
             Wanted::Load => Some("--load"),
             Wanted::Print => Some("--print"),
             Wanted::Dump => Some("--dump"),
+            Wanted::Base => Some("--base"),
             Wanted::Command | Wanted::Nothing | Wanted::Value | Wanted::Help => None,
         }
     }

@@ -17,6 +17,7 @@ use Rattle.c62_insn.specs.declared.effect.Target.TheVariants.{Block as ToBlock, 
 use Rattle.c62_insn.specs.Insn.{op_of, operands_of, cond_of}
 use Rattle.c62_insn.specs.Effect.{runs_of, values_of, access_of, target_of}
 use Rattle.c62_serial.specs.State.{Machine, index_of, word_in, byte_in}
+use Rattle.c62_serial.specs.Memory.{placed_from}
 use Rattle.c62_serial.specs.Effect.{Act, no_act, act_of, loaded}
 use Rattle.c62_packet.specs.declared.placed.Placed.{Placed}
 use Rattle.c62_meaning.specs.Landing.{Landing, latest, value_or}
@@ -42,13 +43,13 @@ module _ (text other : Text) where
     pub access : a.access ≡ b.access
     pub target : TargetAlike a.target b.target
 
-  abbrev act_by : Op → Operands → Option Condition → (Reg → ℕ) → (ℕ → ℕ) → Act
-  act_by op operands cond word byte =
+  abbrev act_by : Op → Operands → Option Condition → ℕ → (Reg → ℕ) → (ℕ → ℕ) → Act
+  act_by op operands cond base word byte =
       if runs_of cond (option_map (λ c. word c.reg) cond) then record {
         writes = zip (writes_of op operands)
             (values_of op operands (map word (reads_of op operands)) ++ option_to_list
-            (loaded byte op (access_of op operands (map word (reads_of op operands)))));
-        access = access_of op operands (map word (reads_of op operands));
+            (loaded byte op (placed_from base (access_of op operands (map word (reads_of op operands))))));
+        access = placed_from base (access_of op operands (map word (reads_of op operands)));
         target = target_of operands (map word (reads_of op operands));
       } else no_act
 
@@ -59,32 +60,33 @@ module _ (text other : Text) where
   by_alike true a c h = h
   by_alike false a c h = no_alike
 
-  act_parts : (op : Op) (one two : Operands) (cond : Option Condition) (word : Reg → ℕ) (byte : ℕ → ℕ)
+  act_parts : (op : Op) (one two : Operands) (cond : Option Condition) (base : ℕ) (word : Reg → ℕ) (byte : ℕ → ℕ)
       → SameOperands text other one two
-      → ActAlike (act_by op one cond word byte) (act_by op two cond word byte)
-  act_parts op (Block number) (Block another) cond word byte h =
+      → ActAlike (act_by op one cond base word byte) (act_by op two cond base word byte)
+  act_parts op (Block number) (Block another) cond base word byte h =
       by_alike (runs_of cond (option_map (λ c. word c.reg) cond)) _ _
       (record { writes = refl; access = refl; target = h })
-  act_parts op (Block number) two cond word byte h = absurd cc
-  act_parts op (Register reg) two cond word byte h =
-      subst (λ o. ActAlike (act_by op (Register reg) cond word byte) (act_by op o cond word byte)) h
+  act_parts op (Block number) two cond base word byte h = absurd cc
+  act_parts op (Register reg) two cond base word byte h =
+      subst (λ o. ActAlike (act_by op (Register reg) cond base word byte) (act_by op o cond base word byte)) h
       (by_alike (runs_of cond (option_map (λ c. word c.reg) cond)) _ _
       (record { writes = refl; access = refl; target = refl }))
-  act_parts op one two cond word byte h =
-      subst (λ o. ActAlike (act_by op one cond word byte) (act_by op o cond word byte)) h
+  act_parts op one two cond base word byte h =
+      subst (λ o. ActAlike (act_by op one cond base word byte) (act_by op o cond base word byte)) h
       (by_alike (runs_of cond (option_map (λ c. word c.reg) cond)) _ _
       (record { writes = refl; access = refl; target = tt }))
 
-  act_alike : (p q : Placed) (word word' : Reg → ℕ) (byte byte' : ℕ → ℕ) → IsSamePlaced text other p q
+  act_alike : (p q : Placed) (base : ℕ) (word word' : Reg → ℕ) (byte byte' : ℕ → ℕ) → IsSamePlaced text other p q
       → ((reg : Reg) → word reg ≡ word' reg) → ((a : ℕ) → byte a ≡ byte' a)
-      → ActAlike (act_of p.insn word byte) (act_of q.insn word' byte')
-  act_alike p q word word' byte byte' same words bytes =
-      subst (λ (a : Act). ActAlike a (act_of q.insn word' byte'))
-      (sym (act_same p.insn word word' byte byte' (λ reg _. words reg) (λ a _. bytes a)))
-      (subst (λ (a : Act). ActAlike (act_of p.insn word' byte') a)
-      (ap (λ (op : Op). act_by op (operands_of q.insn) (cond_of p.insn) word' byte') same.op
-      ∙ ap (λ (c : Option Condition). act_by (op_of q.insn) (operands_of q.insn) c word' byte') same.cond)
-      (act_parts (op_of p.insn) (operands_of p.insn) (operands_of q.insn) (cond_of p.insn) word' byte' same.operands))
+      → ActAlike (act_of p.insn base word byte) (act_of q.insn base word' byte')
+  act_alike p q base word word' byte byte' same words bytes =
+      subst (λ (a : Act). ActAlike a (act_of q.insn base word' byte'))
+      (sym (act_same p.insn base base word word' byte byte' refl (λ reg _. words reg) (λ a _. bytes a)))
+      (subst (λ (a : Act). ActAlike (act_of p.insn base word' byte') a)
+      (ap (λ (op : Op). act_by op (operands_of q.insn) (cond_of p.insn) base word' byte') same.op
+      ∙ ap (λ (c : Option Condition). act_by (op_of q.insn) (operands_of q.insn) c base word' byte') same.cond)
+      (act_parts (op_of p.insn) (operands_of p.insn) (operands_of q.insn) (cond_of p.insn) base word' byte'
+      same.operands))
 
   -- ---- lists of what stands alike
 
@@ -156,7 +158,7 @@ module _ (text other : Text) where
   unfolding acts_to
   acts_alike ps qs s zero h p q a = no_alike
   acts_alike ps qs s (suc k) h p q a =
-      act_alike p q (word_before ps s (acts_to ps s k) p.cycle) (word_before qs s (acts_to qs s k) q.cycle)
+      act_alike p q s.base (word_before ps s (acts_to ps s k) p.cycle) (word_before qs s (acts_to qs s k) q.cycle)
       (byte_before ps s (acts_to ps s k) p.cycle) (byte_before qs s (acts_to qs s k) q.cycle) a.same
       (λ reg. words_alike ps qs s (acts_to ps s k) (acts_to qs s k) p.cycle reg h (acts_alike ps qs s k h)
       ∙ ap (λ t. word_before qs s (acts_to qs s k) t reg) a.cycle)

@@ -63,7 +63,8 @@ module _ (text : Text) (block : Packed) (row count lead : ℕ) (laid : IsLaid te
   -- what goes somewhere is a branch
   goes : (q : Placed) (target : Target) → In q block.placed → (m.did q).target ≡ Some target → is_branching q ≡ true
   goes q target h e =
-      goes_branch q.insn (word_before block.placed before m.did q.cycle) (byte_before block.placed before m.did q.cycle)
+      goes_branch q.insn before.base (word_before block.placed before m.did q.cycle)
+      (byte_before block.placed before m.did q.cycle)
       target
       (ap (λ (a : Act). a.target) (sym (m.run q (Contains_from_In q block.placed h))) ∙ e)
 
@@ -188,7 +189,7 @@ module _ (text : Text) (block : Packed) (row count lead : ℕ) (laid : IsLaid te
 
       pub names : (number : ℕ) → target ≡ ToBlock number → operands_of (moved lead branch).insn ≡ BlockOperand number
       names number e =
-          goes_to branch.insn (word_before block.placed before m.did (lead + branch.cycle))
+          goes_to branch.insn before.base (word_before block.placed before m.did (lead + branch.cycle))
           (byte_before block.placed before m.did (lead + branch.cycle)) number
           (ap (λ (a : Act). a.target)
           (sym (m.run (moved lead branch)

@@ -39,7 +39,7 @@ abbrev table : ℕ → List ℕ → ℕ → Reg → ℕ
 table a0 others cycle reg = get_or (a0 ∷ (7 - cycle) ∷ (cycle - 5) ∷ 1 ∷ 1 ∷ others) (index_of reg) 0
 
 abbrev counts : ℕ → List ℕ → Did
-counts a0 others p = act_of p.insn (table a0 others p.cycle) (λ _. 0)
+counts a0 others p = act_of p.insn 0 (table a0 others p.cycle) (λ _. 0)
 
 abbrev issued : ℕ → List ℕ → Issued
 issued a0 others = record { placed = issued_on one_cycle_loop path; did = counts a0 others }
@@ -53,7 +53,7 @@ loop_runs a0 others memory faults p c =
     placed = issued_on one_cycle_loop path
 
     found : Placed → Act
-    found p = act_of p.insn (word_before placed (counting a0 others memory faults) (counts a0 others) p.cycle)
+    found p = act_of p.insn 0 (word_before placed (counting a0 others memory faults) (counts a0 others) p.cycle)
         (byte_before placed (counting a0 others memory faults) (counts a0 others) p.cycle)
 
 loop_whole : (a0 : ℕ) (others : List ℕ) → none_below (broken (issued a0 others)) 17 ≡ true

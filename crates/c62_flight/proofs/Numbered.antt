@@ -96,6 +96,7 @@ fly_the_same text other same first limit opening stop cycles final f =
         run = the_run_runs qs opening;
         leaves = record {
           sound = r.2.sound;
+          base = r.2.base;
           words = λ reg. r.2.words reg
               ∙ words_alike text other ps qs opening (the_run ps opening) (the_run qs opening) (cycles + 4) reg h
               acts;

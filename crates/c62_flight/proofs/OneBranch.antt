@@ -29,9 +29,9 @@ use Rattle.c62_flight.proofs.Told.{find_none, find_some}
 -- ---- one branch
 
 -- what goes to a block names it
-pub goes_to : (insn : Insn) (word : Reg → ℕ) (byte : ℕ → ℕ) (number : ℕ)
-    → (act_of insn word byte).target ≡ Some (ToBlock number) → operands_of insn ≡ BlockOperand number
-goes_to insn word byte number h = either (runs_now word insn) h
+pub goes_to : (insn : Insn) (base : ℕ) (word : Reg → ℕ) (byte : ℕ → ℕ) (number : ℕ)
+    → (act_of insn base word byte).target ≡ Some (ToBlock number) → operands_of insn ≡ BlockOperand number
+goes_to insn base word byte number h = either (runs_now word insn) h
   where
     of_operands : (operands : Operands) (reads : List ℕ) → target_of operands reads ≡ Some (ToBlock number)
         → operands ≡ BlockOperand number
@@ -39,7 +39,7 @@ goes_to insn word byte number h = either (runs_now word insn) h
     of_operands (RegisterOperand reg) reads e = cc
     of_operands _ reads e = cc
 
-    either : (b : Bool) → (if b then act_on insn (operand_values word insn) byte else no_act).target ≡ Some
+    either : (b : Bool) → (if b then act_on insn base (operand_values word insn) byte else no_act).target ≡ Some
         (ToBlock number) → operands_of insn ≡ BlockOperand number
     either true t = of_operands (operands_of insn) (operand_values word insn) t
     either false t = absurd (none-some (ToBlock number) t)

@@ -55,10 +55,11 @@ first_broken issued (suc n) = behind (first_broken issued n) (broken issued n) r
 pub lands_soon : (s : Machine) (issued : Issued) → IsRun issued.placed s issued.did → (p : Placed) → In p issued.placed
     → (write : (Reg × ℕ) × ℕ) → In write (issued.did p).writes → write.0.1 ≤ 4
 lands_soon s issued run p h write k =
-    let k' : In write (act_of p.insn (word_before issued.placed s issued.did p.cycle)
+    let k' : In write (act_of p.insn s.base (word_before issued.placed s issued.did p.cycle)
     (byte_before issued.placed s issued.did p.cycle)).writes
     = subst (λ (a : Act). In write a.writes) (run p (Contains_from_In p issued.placed h)) k in
-    let w : In write.0 (register_writes p.insn) = act_writes p.insn (word_before issued.placed s issued.did p.cycle)
+    let w : In write.0 (register_writes p.insn) = act_writes p.insn s.base
+    (word_before issued.placed s issued.did p.cycle)
     (byte_before issued.placed s issued.did p.cycle) write k' in
     let c : Contains (register_writes p.insn) (write.0.0, write.0.1) = Contains_from_In write.0 (register_writes p.insn)
     w in

@@ -135,7 +135,7 @@ one_cycle_loop = text_of (packet (if_less 1 ∷ if_branch 2 0 ∷ []) ∷ packet
 
 -- A1 is 7, A2 is 0, A3 and A4 are 1
 abbrev pub counting : ℕ → List ℕ → List ℕ → List ℕ → Machine
-counting a0 others memory faults = record { registers = a0 ∷ 7 ∷ 0 ∷ 1 ∷ 1 ∷ others; memory = memory; faults = faults }
+counting a0 others memory faults = record { base = 0; registers = a0 ∷ 7 ∷ 0 ∷ 1 ∷ 1 ∷ others; memory = memory; faults = faults }
 
 -- `B .S2 B3`, NOP 9 and MVK, which is row 2
 abbrev pub go_on : Text
@@ -150,7 +150,7 @@ two_blocks = packed_of None 6 (branch 1 1 ∷ []) ∷ packed_of (Some (codes "L"
 
 -- a machine in which A1 holds this word
 abbrev pub with_a1 : ℕ → ℕ → List ℕ → List ℕ → List ℕ → Machine
-with_a1 word a0 others memory faults = record { registers = a0 ∷ word ∷ others; memory = memory; faults = faults }
+with_a1 word a0 others memory faults = record { base = 0; registers = a0 ∷ word ∷ others; memory = memory; faults = faults }
 
 -- so it runs from each sound machine with that word in A1
 abbrev pub RunsWithA1 : ℕ → Text → Stop → ℕ → Type 0

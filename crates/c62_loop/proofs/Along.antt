@@ -61,7 +61,8 @@ module _ (text : Text) (first : ℕ) (path : List SerialInsn) (visits : List Vis
       by_target : (o : Option Target) → (did p).target ≡ o → is_some o ≡ true → is_branching p ≡ true
       by_target None e t = absurd (false≢true t)
       by_target (Some target) e t =
-          goes_branch p.insn (word_before placed opening did p.cycle) (byte_before placed opening did p.cycle) target
+          goes_branch p.insn opening.base (word_before placed opening did p.cycle)
+          (byte_before placed opening did p.cycle) target
           (ap (λ (a : Act). a.target) (sym (run p (Contains_from_In p placed h))) ∙ e)
 
   one_by_one : LandOneByOne placed did

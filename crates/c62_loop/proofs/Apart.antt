@@ -72,7 +72,7 @@ module _ (counter : Reg) where
         (any_in (λ (write : Reg × ℕ). same_reg write.0 counter) w (register_writes entry.insn) h found))
 
     elsewhere : (machine : Machine) → Elsewhere (act_in machine entry).writes
-    elsewhere machine w h = unwritten w.0 (act_writes entry.insn (word_in machine) (byte_in machine) w h)
+    elsewhere machine w h = unwritten w.0 (act_writes entry.insn machine.base (word_in machine) (byte_in machine) w h)
 
     no_step : steps_on counter entry ≡ false
     no_step = ⊎_elim {C = steps_on counter entry ≡ false} (λ t. absurd (false≢true (sym free ∙ or_left _ _ t))) (λ f. f)
@@ -83,15 +83,15 @@ module _ (counter : Reg) where
 
     pub acts_alike : (v : ℕ) (machine : Machine) → act_in (with_word counter v machine) entry ≡ act_in machine entry
     acts_alike v machine =
-        act_same entry.insn (word_in (with_word counter v machine)) (word_in machine) (byte_in machine)
-        (byte_in machine)
+        act_same entry.insn machine.base machine.base (word_in (with_word counter v machine)) (word_in machine)
+        (byte_in machine) (byte_in machine) refl
         (λ reg h. get_or-set_other machine.registers (index_of counter) (index_of reg) v 0 (unread reg h)) (λ a h. refl)
 
     pub commutes : (v : ℕ) (machine : Machine)
         → after_entry entry (with_word counter v machine) ≡ with_word counter v (after_entry entry machine)
     commutes v machine =
         ap (λ (act : Act). after_act entry.line act (with_word counter v machine)) (acts_alike v machine)
-        ∙ ap (λ (rs : List ℕ). machine_of rs (after_access machine.memory (act_in machine entry).access)
+        ∙ ap (λ (rs : List ℕ). machine_of machine.base rs (after_access machine.memory (act_in machine entry).access)
         (after_fault machine.faults entry.line (is_fault (act_in machine entry).access)))
         (set_writes (act_in machine entry).writes machine.registers v (elsewhere machine))
 
@@ -205,7 +205,8 @@ module _ (counter : Reg) where
           there (omega arith)
           ∙ ap (λ (m : Machine). with_word counter (value - size_of entry - steps_in counter path) m)
           (work_commutes path left machine)
-          ∙ ap (λ (rs : List ℕ). machine_of rs (machine_after (work_of counter path) machine).memory
+          ∙ ap (λ (rs : List ℕ). machine_of (machine_after (work_of counter path) machine).base rs
+          (machine_after (work_of counter path) machine).memory
           (machine_after (work_of counter path) machine).faults)
           (set_again (machine_after (work_of counter path) machine).registers (index_of counter) left
           (value - size_of entry - steps_in counter path))
@@ -222,8 +223,8 @@ module _ (counter : Reg) where
                 let z : value ≡ 0 = omega arith in
                 less 0 t (omega arith)
                 (ap (λ (act : Act). after_act entry.line act machine)
-                (stops.stops (word_in machine) (byte_in machine) (is ∙ z))
-                ∙ sym (ap (λ (rs : List ℕ). machine_of rs machine.memory machine.faults)
+                (stops.stops machine.base (word_in machine) (byte_in machine) (is ∙ z))
+                ∙ sym (ap (λ (rs : List ℕ). machine_of machine.base rs machine.memory machine.faults)
                 (ap (λ v. set machine.registers (index_of counter) v) (sym (is ∙ z))
                 ∙ set-get_or machine.registers (index_of counter) 0))))
           ]
@@ -232,7 +233,7 @@ module _ (counter : Reg) where
       above_zero t enough =
           less (value - size_of entry) t refl
           (ap (λ (act : Act). after_act entry.line act machine)
-          (is_counted.step t (word_in machine) (byte_in machine) (omega arith) (omega arith))
+          (is_counted.step t machine.base (word_in machine) (byte_in machine) (omega arith) (omega arith))
           ∙ ap (λ v. with_word counter (v - size_of entry) machine) is)
 
       tests : steps_on counter entry ≡ false → touches counter entry ≡ true → Apart (entry ∷ path) value machine
@@ -240,9 +241,9 @@ module _ (counter : Reg) where
         where
           either : (b : Bool) → (word_in machine counter == 0) ≡ b → after_entry entry machine ≡ machine
           either true z = ap (λ (act : Act). after_act entry.line act machine)
-              (is_counted.test f t (word_in machine) (byte_in machine) ∙ cond-true _ _ _ z)
+              (is_counted.test f t machine.base (word_in machine) (byte_in machine) ∙ cond-true _ _ _ z)
           either false z = ap (λ (act : Act). after_act entry.line act machine)
-              (is_counted.test f t (word_in machine) (byte_in machine) ∙ cond-false _ _ _ z)
+              (is_counted.test f t machine.base (word_in machine) (byte_in machine) ∙ cond-false _ _ _ z)
 
       free : steps_on counter entry ≡ false → touches counter entry ≡ false → Apart (entry ∷ path) value machine
       free f u =
@@ -268,7 +269,7 @@ module _ (counter : Reg) where
         → word_in machine counter ≡ value → value < 2 ^ 32 → Apart path value machine
     apart [] value machine counted counts sound is small =
         let e : value ≡ value - 0 = omega arith in
-        sym (ap (λ (rs : List ℕ). machine_of rs machine.memory machine.faults)
+        sym (ap (λ (rs : List ℕ). machine_of machine.base rs machine.memory machine.faults)
         (ap (λ v. set machine.registers (index_of counter) v) (sym is)
         ∙ set-get_or machine.registers (index_of counter) 0))
         ∙ ap (λ v. with_word counter v machine) e

@@ -113,7 +113,8 @@ module _ (region : Region) (loop : Pipelined) (trips passes : ℕ) (counted : Is
         = ne_eqb (word_in (serial (take i m.control) start).machine counter) 0 (λ z. omega arith) in
         ap (λ (a : Act). a.target)
         (act_at i entry p at_i at_p
-        ∙ (is_counted entry h).test f (touched entry h) (word_in (serial (take i m.control) start).machine)
+        ∙ (is_counted entry h).test f (touched entry h) (serial (take i m.control) start).machine.base
+        (word_in (serial (take i m.control) start).machine)
         (byte_in (serial (take i m.control) start).machine)
         ∙ cond-false _ _ _ ne)
 
@@ -128,7 +129,8 @@ module _ (region : Region) (loop : Pipelined) (trips passes : ℕ) (counted : Is
         = eq-eqb (word_in (serial (take i m.control) start).machine counter) 0 (omega arith) in
         ap (λ (a : Act). a.target)
         (act_at i entry p at_i at_p
-        ∙ (is_counted entry h).test f (touched entry h) (word_in (serial (take i m.control) start).machine)
+        ∙ (is_counted entry h).test f (touched entry h) (serial (take i m.control) start).machine.base
+        (word_in (serial (take i m.control) start).machine)
         (byte_in (serial (take i m.control) start).machine)
         ∙ cond-true _ _ _ eq)
 
@@ -152,7 +154,8 @@ module _ (region : Region) (loop : Pipelined) (trips passes : ℕ) (counted : Is
             let e : word_in (serial (take i m.control) start).machine counter ≡ trips - steps_in counter
             (take i m.control) = here in
             ap (λ (a : Act). a.target)
-            ((is_counted entry h).step t (word_in (serial (take i m.control) start).machine)
+            ((is_counted entry h).step t (serial (take i m.control) start).machine.base
+            (word_in (serial (take i m.control) start).machine)
             (byte_in (serial (take i m.control) start).machine) l (omega arith))
 
         few : word_in (serial (take i m.control) start).machine counter < size_of entry
@@ -165,7 +168,8 @@ module _ (region : Region) (loop : Pipelined) (trips passes : ℕ) (counted : Is
                   (omega arith))
               | inr stops ↦ (let one : size_of entry ≡ 1 = stops.one in
                   ap (λ (a : Act). a.target)
-                  (stops.stops (word_in (serial (take i m.control) start).machine)
+                  (stops.stops (serial (take i m.control) start).machine.base
+                  (word_in (serial (take i m.control) start).machine)
                   (byte_in (serial (take i m.control) start).machine) (omega arith)))
             ]
 
@@ -175,6 +179,7 @@ module _ (region : Region) (loop : Pipelined) (trips passes : ℕ) (counted : Is
         → is_branch (op_of entry.insn) ≡ false → (target : Target) → (did p).target ≡ Some target → ⊥
     straight i entry p at_i at_p none target e =
         false≢true (sym none
-        ∙ goes_branch entry.insn (word_in (serial (take i path) opening).machine)
+        ∙ goes_branch entry.insn (serial (take i path) opening).machine.base
+        (word_in (serial (take i path) opening).machine)
         (byte_in (serial (take i path) opening).machine) target
         (ap (λ (a : Act). a.target) (sym (acts i entry p at_i at_p)) ∙ e))

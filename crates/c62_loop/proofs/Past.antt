@@ -16,6 +16,7 @@ use Rattle.c62_insn.specs.Insn.{op_of, operands_of, register_writes}
 use Rattle.c62_insn.specs.Effect.{access_of}
 use Rattle.c62_read.specs.declared.block.SerialInsn.{SerialInsn}
 use Rattle.c62_serial.specs.State.{Machine, word_in, byte_in}
+use Rattle.c62_serial.specs.Memory.{place_from, placed_from}
 use Rattle.c62_serial.specs.Faults.{after_fault}
 use Rattle.c62_serial.specs.Effect.{Act, no_act, runs, operand_values, act_on, is_fault}
 use Rattle.c62_serial.specs.Serial.{after_access, after_store, after_entry, act_in, serial}
@@ -41,20 +42,20 @@ stores_nothing : (entry : SerialInsn) (machine : Machine) → is_store (op_of en
     → after_access machine.memory (act_in machine entry).access ≡ machine.memory
 stores_nothing entry machine f =
     cond_both (runs (word_in machine) entry.insn)
-    (act_on entry.insn (operand_values (word_in machine) entry.insn) (byte_in machine)) no_act
+    (act_on entry.insn machine.base (operand_values (word_in machine) entry.insn) (byte_in machine)) no_act
     (λ (act : Act). after_access machine.memory act.access ≡ machine.memory)
     (λ _. by_access (access_of (op_of entry.insn) (operands_of entry.insn)
     (operand_values (word_in machine) entry.insn)) refl) (λ _. refl)
   where
     by_access : (o : Option MemoryAccess)
         → access_of (op_of entry.insn) (operands_of entry.insn) (operand_values (word_in machine) entry.insn) ≡ o
-        → after_access machine.memory
-        (access_of (op_of entry.insn) (operands_of entry.insn) (operand_values (word_in machine) entry.insn)) ≡
+        → after_access machine.memory (placed_from machine.base
+        (access_of (op_of entry.insn) (operands_of entry.insn) (operand_values (word_in machine) entry.insn))) ≡
         machine.memory
-    by_access None e = ap (λ o. after_access machine.memory o) e
+    by_access None e = ap (λ o. after_access machine.memory (placed_from machine.base o)) e
     by_access (Some a) e =
-        ap (λ o. after_access machine.memory o) e
-        ∙ ap (λ v. after_store machine.memory v a.address a.size)
+        ap (λ o. after_access machine.memory (placed_from machine.base o)) e
+        ∙ ap (λ v. after_store machine.memory v (place_from machine.base a.address) a.size)
         (no_value (op_of entry.insn) (operands_of entry.insn) (operand_values (word_in machine) entry.insn) a f
         e)
 
@@ -74,13 +75,13 @@ accesses : (entry : SerialInsn) (machine : Machine) → is_fault (act_in machine
     → is_access (operands_of entry.insn) ≡ true
 accesses entry machine =
     cond_both (runs (word_in machine) entry.insn)
-    (act_on entry.insn (operand_values (word_in machine) entry.insn) (byte_in machine)) no_act
+    (act_on entry.insn machine.base (operand_values (word_in machine) entry.insn) (byte_in machine)) no_act
     (λ (act : Act). is_fault act.access ≡ true → is_access (operands_of entry.insn) ≡ true)
     (λ _. of_operands (op_of entry.insn) (operands_of entry.insn) (operand_values (word_in machine) entry.insn))
     (λ _ h. absurd (false≢true h))
   where
-    of_operands : (op : Op) (operands : Operands) (reads : List ℕ) → is_fault (access_of op operands reads) ≡ true
-        → is_access operands ≡ true
+    of_operands : (op : Op) (operands : Operands) (reads : List ℕ)
+        → is_fault (placed_from machine.base (access_of op operands reads)) ≡ true → is_access operands ≡ true
     of_operands op (Access reg base form offset) reads h = refl
     of_operands op _ reads h = cc
 
@@ -91,7 +92,8 @@ word_kept entry machine reg none =
     kept reg (act_in machine entry).writes machine.registers
     (λ w h e.
     let same : w.0.0 ≡ reg = same_register w.0.0 reg e in
-    let inside : In w.0 (register_writes entry.insn) = act_writes entry.insn (word_in machine) (byte_in machine) w h in
+    let inside : In w.0 (register_writes entry.insn) = act_writes entry.insn machine.base (word_in machine)
+    (byte_in machine) w h in
     none w.0.1 (subst (λ (r : Reg). Contains (register_writes entry.insn) (r, w.0.1)) same
     (Contains_from_In w.0 (register_writes entry.insn) inside)))
 
@@ -106,11 +108,18 @@ later_of entry other past c = Contains_from_In other (entry ∷ past) (inr (In_f
 same_but : (past : List SerialInsn) (machine : Machine)
     → ((entry : SerialInsn) → In entry past → is_store (op_of entry.insn) ≡ false)
     → IsSameBut past machine (machine_after past machine)
-same_but [] machine none = record { memory = refl; words = λ reg h. refl; kept = λ line c. c; faults = λ line c. inl c }
+same_but [] machine none = record {
+  base = refl;
+  memory = refl;
+  words = λ reg h. refl;
+  kept = λ line c. c;
+  faults = λ line c. inl c;
+}
 same_but (entry ∷ past) machine none =
     let rest : IsSameBut past (after_entry entry machine) (machine_after past (after_entry entry machine)) = same_but
     past (after_entry entry machine) (λ e h. none e (inr h)) in
     record {
+      base = rest.base;
       memory = rest.memory ∙ stores_nothing entry machine (none entry (inl refl));
       words = λ reg h. rest.words reg (λ e delay c w. h e delay (later_of entry e past c) w)
           ∙ word_kept entry machine reg (λ delay w. h entry delay (first_of entry past) w);

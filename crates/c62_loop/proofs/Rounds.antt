@@ -44,7 +44,7 @@ falls_through (x ∷ xs) ran none =
     by_target None e = e
     by_target (Some target) e =
         absurd (false≢true (sym (none x (inl refl))
-        ∙ goes_branch x.insn (word_in ran.machine) (byte_in ran.machine) target e))
+        ∙ goes_branch x.insn ran.machine.base (word_in ran.machine) (byte_in ran.machine) target e))
 
 module _ (program : List Serial) (number : ℕ) (counter : Reg) (body : List SerialInsn) (test : SerialInsn)
     (is : IsLoopBlock program number counter body test) where
@@ -62,9 +62,11 @@ module _ (program : List Serial) (number : ℕ) (counter : Reg) (body : List Ser
   stays machine = either (word_in machine counter == 0) refl
     where
       either : (b : Bool) → (word_in machine counter == 0) ≡ b → after_entry test machine ≡ machine
-      either true z = ap (λ (act : Act). after_act test.line act machine) (is.tests (word_in machine) (byte_in machine)
+      either true z = ap (λ (act : Act). after_act test.line act machine)
+          (is.tests machine.base (word_in machine) (byte_in machine)
           ∙ cond-true _ _ _ z)
-      either false z = ap (λ (act : Act). after_act test.line act machine) (is.tests (word_in machine) (byte_in machine)
+      either false z = ap (λ (act : Act). after_act test.line act machine)
+          (is.tests machine.base (word_in machine) (byte_in machine)
           ∙ cond-false _ _ _ z)
 
   round_leaves : (opening : Machine) → (serial block opening).machine ≡ machine_after body opening
@@ -101,13 +103,15 @@ module _ (program : List Serial) (number : ℕ) (counter : Reg) (body : List Ser
     goes_on : trips ≡ 0 → (serial block opening).exit ≡ Next
     goes_on z =
         exit_is ∙ ap (λ (act : Act). exit_after Next act.target)
-        (is.tests (word_in (serial body opening).machine) (byte_in (serial body opening).machine)
+        (is.tests (serial body opening).machine.base (word_in (serial body opening).machine)
+        (byte_in (serial body opening).machine)
         ∙ cond-true _ _ _ (eq-eqb _ 0 (finds ∙ z)))
 
     goes_back : (trips ≡ 0 → ⊥) → (serial block opening).exit ≡ Block number
     goes_back ne =
         exit_is ∙ ap (λ (act : Act). exit_after Next act.target)
-        (is.tests (word_in (serial body opening).machine) (byte_in (serial body opening).machine)
+        (is.tests (serial body opening).machine.base (word_in (serial body opening).machine)
+        (byte_in (serial body opening).machine)
         ∙ cond-false _ _ _ (ne_eqb _ 0 (λ z. ne (sym finds ∙ z))))
 
   rounds_leave : (trips : ℕ) (opening : Machine)

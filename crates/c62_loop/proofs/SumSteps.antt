@@ -16,7 +16,7 @@ use Rattle.c62_loop.specs.Sample.{a1, load, add, step, six_steps, branch, step_i
 use Rattle.c62_loop.specs.Sample.{branch_in}
 
 pub step_counts : (line : ℕ) → IsStep a1 (record { insn = step; line = line })
-step_counts line word byte enough small =
+step_counts line base word byte enough small =
     let runs : not (word a1 == 0) ≡ true = ap not (ne_eqb (word a1) 0 (λ z. omega arith)) in
     let value : (word a1 + (2 ^ 32 - 1)) % 2 ^ 32 ≡ word a1 - 1 = omega arith in
     cond-true _ _ _ runs ∙ ap (λ v. record { writes = ((a1, 0), v) ∷ []; access = None; target = None }) value
@@ -24,15 +24,15 @@ step_counts line word byte enough small =
 pub step_stops : (line : ℕ) → StopsAtZero a1 (record { insn = step; line = line })
 step_stops line = record {
   one = refl;
-  stops = λ word byte z.
+  stops = λ base word byte z.
       (let stays : not (word a1 == 0) ≡ false = ap not (eq-eqb (word a1) 0 z) in cond-false _ _ _ stays);
 }
 
 pub branch_tests : (line : ℕ) → IsTest a1 0 (record { insn = branch; line = line })
-branch_tests line word byte = either (word a1 == 0) refl
+branch_tests line base word byte = either (word a1 == 0) refl
   where
     either : (b : Bool) → (word a1 == 0) ≡ b
-        → act_of branch word byte ≡
+        → act_of branch base word byte ≡
         (cond (word a1 == 0) no_act (record { writes = []; access = None; target = Some (ToBlock 0) }))
     either true z = cond-false _ _ _ (ap not z) ∙ sym (cond-true _ _ _ z)
     either false z = cond-true _ _ _ (ap not z) ∙ sym (cond-false _ _ _ z)
@@ -80,7 +80,7 @@ step_control cycle = record {
 }
 
 pub six_counts : (line : ℕ) → IsStep a1 (record { insn = six_steps; line = line })
-six_counts line word byte enough small =
+six_counts line base word byte enough small =
     let value : (word a1 + (2 ^ 32 - 6)) % 2 ^ 32 ≡ word a1 - 6 = omega arith in
     ap (λ v. record { writes = ((a1, 0), v) ∷ []; access = None; target = None }) value
 

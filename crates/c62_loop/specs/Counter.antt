@@ -32,18 +32,18 @@ size_of entry = constant_in (operands_of entry.insn)
 
 -- it takes as much off the counter, which is a word, where that is no less, and does nothing else
 abbrev pub IsStep : Reg → SerialInsn → Type 0
-IsStep counter entry = (word : Reg → ℕ) (byte : ℕ → ℕ) → size_of entry ≤ word counter → word counter < 2 ^ 32
-    → act_of entry.insn word byte ≡ record { writes = ((counter, 0), word counter - size_of entry) ∷ []; access = None; target = None }
+IsStep counter entry = (base : ℕ) (word : Reg → ℕ) (byte : ℕ → ℕ) → size_of entry ≤ word counter → word counter < 2 ^ 32
+    → act_of entry.insn base word byte ≡ record { writes = ((counter, 0), word counter - size_of entry) ∷ []; access = None; target = None }
 
 -- it takes one, and does nothing where the counter is 0
 pub record StopsAtZero (counter : Reg) (entry : SerialInsn) : Type 0 where
   pub one : size_of entry ≡ 1
-  pub stops : (word : Reg → ℕ) (byte : ℕ → ℕ) → word counter ≡ 0 → act_of entry.insn word byte ≡ no_act
+  pub stops : (base : ℕ) (word : Reg → ℕ) (byte : ℕ → ℕ) → word counter ≡ 0 → act_of entry.insn base word byte ≡ no_act
 
 -- it branches to the label of this number while the counter isn't 0, and does nothing else
 abbrev pub IsTest : Reg → ℕ → SerialInsn → Type 0
-IsTest counter number entry = (word : Reg → ℕ) (byte : ℕ → ℕ)
-    → act_of entry.insn word byte ≡ (if word counter == 0 then no_act else record { writes = []; access = None; target = Some (ToBlock number) })
+IsTest counter number entry = (base : ℕ) (word : Reg → ℕ) (byte : ℕ → ℕ)
+    → act_of entry.insn base word byte ≡ (if word counter == 0 then no_act else record { writes = []; access = None; target = Some (ToBlock number) })
 
 -- An instruction that writes the counter is such a step, another that reads it is such a branch, and any other is no branch.
 pub record IsCounted (counter : Reg) (number : ℕ) (entry : SerialInsn) : Type 0 where

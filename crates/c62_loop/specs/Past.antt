@@ -16,8 +16,9 @@ abbrev pub is_access : Operands → Bool
 is_access (Access _ _ _ _) = true
 is_access operands = false
 
--- memory is as it was, and so are the registers that none of these instructions writes; the faulted lines are those that were, and lines of their accesses
+-- memory is as it was, from where it begins on, and so are the registers that none of these instructions writes; the faulted lines are those that were, and lines of their accesses
 pub record IsSameBut (past : List SerialInsn) (before after : Machine) : Type 0 where
+  pub base : after.base ≡ before.base
   pub memory : after.memory ≡ before.memory
   pub words : (reg : Reg) → ((entry : SerialInsn) (delay : ℕ) → Contains past entry → Contains (register_writes entry.insn) (reg, delay) → ⊥) → word_in after reg ≡ word_in before reg
   pub kept : (line : ℕ) → Contains before.faults line → Contains after.faults line

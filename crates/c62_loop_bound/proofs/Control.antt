@@ -42,8 +42,8 @@ pub branch_takers : (counter : Reg) (label : ℕ) (p : Placed) → IsControl cou
 branch_takers counter label p control no_step taking =
     let test : IsTest counter label (entry_of p) = control.counted.test no_step control.touch in
     let branch : is_branch (op_of p.insn) ≡ true
-    = goes_branch p.insn (λ reg. 1) (λ address. 0) (ToBlock label)
-    (ap (λ (act : Act). act.target) (test (λ reg. 1) (λ address. 0))) in
+    = goes_branch p.insn 0 (λ reg. 1) (λ address. 0) (ToBlock label)
+    (ap (λ (act : Act). act.target) (test 0 (λ reg. 1) (λ address. 0))) in
     branch_letter (op_of p.insn) p.unit.letter branch (taken_letter (op_of p.insn) (operands_of p.insn) p.unit taking)
 
 -- ---- steps

@@ -24,6 +24,7 @@ use Rattle.c62_insn.specs.Insn.{op_of, operands_of, cond_of, is_condition_on}
 use Rattle.c62_insn.specs.Insn.{reads_register}
 use Rattle.c62_insn.specs.Effect.{runs_of, values_of, access_of, target_of}
 use Rattle.c62_read.specs.declared.block.SerialInsn.{SerialInsn}
+use Rattle.c62_serial.specs.Memory.{placed_from}
 use Rattle.c62_serial.specs.Effect.{Act, no_act, act_of, loaded}
 use Rattle.c62_loop.specs.Counter.{constant_in, steps_on, touches, IsStep, StopsAtZero, IsTest, IsCounted}
 use Rattle.c62_loop_match.specs.Form.{is_guarded, runs_above_zero, lowers, is_step, stops, goes_to, is_test, counts}
@@ -110,19 +111,19 @@ goes_is number op operands e = absurd (false≢true e)
 
 -- ---- what they do
 
-acts : Op → Operands → Bool → (Reg → ℕ) → (ℕ → ℕ) → Act
-acts op operands runs word byte = cond runs (record {
+acts : Op → Operands → Bool → ℕ → (Reg → ℕ) → (ℕ → ℕ) → Act
+acts op operands runs base word byte = cond runs (record {
   writes = zip (writes_of op operands)
       (values_of op operands (map word (reads_of op operands)) ++ option_to_list
-      (loaded byte op (access_of op operands (map word (reads_of op operands)))));
-  access = access_of op operands (map word (reads_of op operands));
+      (loaded byte op (placed_from base (access_of op operands (map word (reads_of op operands))))));
+  access = placed_from base (access_of op operands (map word (reads_of op operands)));
   target = target_of operands (map word (reads_of op operands));
 }) no_act
 
-acts_are : (insn : Insn) (word : Reg → ℕ) (byte : ℕ → ℕ)
-    → act_of insn word byte ≡ acts (op_of insn) (operands_of insn) (ran word (cond_of insn)) word byte
+acts_are : (insn : Insn) (base : ℕ) (word : Reg → ℕ) (byte : ℕ → ℕ)
+    → act_of insn base word byte ≡ acts (op_of insn) (operands_of insn) (ran word (cond_of insn)) base word byte
 unfolding acts ran
-acts_are insn word byte = refl
+acts_are insn base word byte = refl
 
 lowered : Reg → ℕ → ℕ → Act
 lowered counter value size = record { writes = ((counter, 0), value - size) ∷ []; access = None; target = None }
@@ -135,32 +136,32 @@ added_on : (n w : ℕ) → n ≤ 30 → suc n ≤ w → w < 2 ^ 32 → sum (word
 added_on n w high enough small = let e : n % 2 ^ 32 ≡ n = omega arith in ap (λ m. (2 ^ 32 - 1 - m + w) % 2 ^ 32) e
     ∙ omega arith
 
-at_rest : (entry : SerialInsn) (word : Reg → ℕ) (byte : ℕ → ℕ)
-    → acts (op_of entry.insn) (operands_of entry.insn) false word byte ≡ no_act
+at_rest : (entry : SerialInsn) (base : ℕ) (word : Reg → ℕ) (byte : ℕ → ℕ)
+    → acts (op_of entry.insn) (operands_of entry.insn) false base word byte ≡ no_act
 unfolding acts
-at_rest entry word byte = refl
+at_rest entry base word byte = refl
 
-turned : (number : ℕ) (word : Reg → ℕ) (byte : ℕ → ℕ) (b : Bool)
-    → acts Branch (Block number) (not b) word byte ≡ cond b no_act
+turned : (number : ℕ) (base : ℕ) (word : Reg → ℕ) (byte : ℕ → ℕ) (b : Bool)
+    → acts Branch (Block number) (not b) base word byte ≡ cond b no_act
     (record { writes = []; access = None; target = Some (ToBlock number) })
 unfolding acts
-turned number word byte true = refl
-turned number word byte false = refl
+turned number base word byte true = refl
+turned number base word byte false = refl
 
 module _ (counter : Reg) where
-  step_acts : (op : Op) (operands : Operands) → Lowers counter op operands → (word : Reg → ℕ) (byte : ℕ → ℕ)
+  step_acts : (op : Op) (operands : Operands) → Lowers counter op operands → (base : ℕ) (word : Reg → ℕ) (byte : ℕ → ℕ)
       → constant_in operands ≤ word counter → word counter < 2 ^ 32
-      → acts op operands true word byte ≡ lowered counter (word counter) (constant_in operands)
+      → acts op operands true base word byte ≡ lowered counter (word counter) (constant_in operands)
   unfolding acts lowered
-  step_acts op operands (BySub n low high is_op is_operands) word byte enough small =
+  step_acts op operands (BySub n low high is_op is_operands) base word byte enough small =
       let size : constant_in operands ≡ n = ap constant_in is_operands in
-      ap (λ o. acts o operands true word byte) is_op ∙ ap (λ o. acts Sub o true word byte) is_operands
+      ap (λ o. acts o operands true base word byte) is_op ∙ ap (λ o. acts Sub o true base word byte) is_operands
       ∙ ap (λ v. record { writes = ((counter, 0), v) ∷ []; access = None; target = None })
       (taken_off n (word counter) low high (omega arith) small)
       ∙ ap (λ k. lowered counter (word counter) k) (sym size)
-  step_acts op operands (ByAdd n high is_op is_operands) word byte enough small =
+  step_acts op operands (ByAdd n high is_op is_operands) base word byte enough small =
       let size : constant_in operands ≡ suc n = ap constant_in is_operands in
-      ap (λ o. acts o operands true word byte) is_op ∙ ap (λ o. acts Add o true word byte) is_operands
+      ap (λ o. acts o operands true base word byte) is_op ∙ ap (λ o. acts Add o true base word byte) is_operands
       ∙ ap (λ v. record { writes = ((counter, 0), v) ∷ []; access = None; target = None })
       (added_on n (word counter) high (omega arith) small)
       ∙ ap (λ k. lowered counter (word counter) k) (sym size)
@@ -192,7 +193,7 @@ module _ (counter : Reg) where
   -- a step counts
   pub is_step-counts : (entry : SerialInsn) → is_step counter entry.insn ≡ true → IsStep counter entry
   unfolding lowered
-  is_step-counts entry e word byte enough small =
+  is_step-counts entry e base word byte enough small =
       let parts = and_parts (runs_above_zero counter (cond_of entry.insn))
       (lowers counter (op_of entry.insn) (operands_of entry.insn)) e in
       let form = lowers_are counter (op_of entry.insn) (operands_of entry.insn) parts.1 in
@@ -200,8 +201,9 @@ module _ (counter : Reg) where
       in
       let runs : ran word (cond_of entry.insn) ≡ true = free_runs counter (cond_of entry.insn) word parts.0
       (omega arith) in
-      acts_are entry.insn word byte ∙ ap (λ b. acts (op_of entry.insn) (operands_of entry.insn) b word byte) runs
-      ∙ step_acts (op_of entry.insn) (operands_of entry.insn) form word byte enough small
+      acts_are entry.insn base word byte
+      ∙ ap (λ b. acts (op_of entry.insn) (operands_of entry.insn) b base word byte) runs
+      ∙ step_acts (op_of entry.insn) (operands_of entry.insn) form base word byte enough small
 
   -- and one that stops at zero does
   pub stops-stops : (entry : SerialInsn) → stops counter entry.insn ≡ true → StopsAtZero counter entry
@@ -209,26 +211,27 @@ module _ (counter : Reg) where
       let parts = and_parts (is_guarded counter (cond_of entry.insn)) (constant_in (operands_of entry.insn) == 1) e in
       record {
         one = eqb-true (constant_in (operands_of entry.insn)) 1 parts.1;
-        stops = λ word byte z.
+        stops = λ base word byte z.
             (let rests : ran word (cond_of entry.insn) ≡ false = guarded_runs counter (cond_of entry.insn) word
             parts.0 ∙ ap not (eq-eqb (word counter) 0 z) in
-            acts_are entry.insn word byte ∙ ap (λ b. acts (op_of entry.insn) (operands_of entry.insn) b word byte) rests
-            ∙ at_rest entry word byte);
+            acts_are entry.insn base word byte
+            ∙ ap (λ b. acts (op_of entry.insn) (operands_of entry.insn) b base word byte) rests
+            ∙ at_rest entry base word byte);
       }
 
   -- a test tests
   pub is_test-tests : (number : ℕ) (entry : SerialInsn) → is_test counter number entry.insn ≡ true
       → IsTest counter number entry
-  is_test-tests number entry e word byte =
+  is_test-tests number entry e base word byte =
       let parts = and_parts (is_guarded counter (cond_of entry.insn))
       (goes_to number (op_of entry.insn) (operands_of entry.insn)) e in
       let form = goes_is number (op_of entry.insn) (operands_of entry.insn) parts.1 in
-      acts_are entry.insn word byte
-      ∙ ap (λ b. acts (op_of entry.insn) (operands_of entry.insn) b word byte)
+      acts_are entry.insn base word byte
+      ∙ ap (λ b. acts (op_of entry.insn) (operands_of entry.insn) b base word byte)
       (guarded_runs counter (cond_of entry.insn) word parts.0)
-      ∙ ap (λ o. acts o (operands_of entry.insn) (not (word counter == 0)) word byte) form.is_branch
-      ∙ ap (λ o. acts Branch o (not (word counter == 0)) word byte) form.to
-      ∙ turned number word byte (word counter == 0)
+      ∙ ap (λ o. acts o (operands_of entry.insn) (not (word counter == 0)) base word byte) form.is_branch
+      ∙ ap (λ o. acts Branch o (not (word counter == 0)) base word byte) form.to
+      ∙ turned number base word byte (word counter == 0)
 
   -- ---- what stands by itself
 

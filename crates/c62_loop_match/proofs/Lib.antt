@@ -17,3 +17,5 @@ pub mod Decides
 pub mod Plain
 pub mod Astrays
 pub mod Readings
+pub mod Beyonds
+pub mod PastDecides

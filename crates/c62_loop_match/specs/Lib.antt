@@ -13,3 +13,5 @@ pub mod Decide
 pub mod Reading
 pub mod Astray
 pub mod Refusal
+pub mod Beyond
+pub mod Collapse

@@ -193,7 +193,7 @@ pub(crate) fn holds_rows(
 }
 
 /// Whether all has landed when the epilog is over, where the kernel is passed once.
-fn has_landed(layout: &Layout) -> bool
+pub(crate) fn has_landed(layout: &Layout) -> bool
     ensures { OnTrue result (HasLanded layout.now) }
 {
     is_drained(layout.after.end, &layout.prolog.issued)

@@ -26,6 +26,38 @@ pub(crate) enum Distances {
     Unlike,
 }
 
+/// What is found of the instances of a path of so many iterations.
+pub(crate) fn found_in(
+    work: &Work,
+    path: &[Uses],
+    instances: &[Instance],
+    promise: Promise,
+    trips: u16,
+) -> Distances
+    requires { insns_in path.now ≡ insns_of (straights_of work.now) trips }
+    ensures { (placed : List Placed) → instances.now ≡ map instance placed → AreFound (promises promise) (straights_of work.now) trips placed result }
+{
+    if instances.len() != path.len() || path.len() < work.behind.len() {
+        return Distances::Unlike;
+    }
+    let borders = Borders {
+        begin: work.before.len(),
+        body: work.body.len(),
+        trips,
+        end: path.len() - work.behind.len(),
+    };
+    match first_early(path, instances, promise, borders) {
+        None => Distances::Kept,
+        Some(early) => Distances::TooEarly(early),
+    }
+}
+
+ghost use Rattle.std.specs.Prelude.{List, map};
+ghost use Rattle.c62_packet.specs.declared.placed.Placed.{Placed};
+ghost use Rattle.c62_pair.specs.Uses.{insns_in};
+ghost use Rattle.c62_loop.specs.Stage.{insns_of};
+ghost use Rattle.c62_loop_match.specs.Path.{instance};
+
 /// What is found where the kernel is passed so often, and so many iterations are made.
 ///
 /// # Errors
@@ -43,19 +75,8 @@ fn in_passes(
 {
     let path = path_of(alloc, work, trips)?;
     let instances = instances_of(alloc, schedule, trips, passes)?;
-    if instances.len() != path.len() || path.len() < work.behind.len() {
-        return Ok(Distances::Unlike);
-    }
-    let borders = Borders {
-        begin: work.before.len(),
-        body: work.body.len(),
-        trips,
-        end: path.len() - work.behind.len(),
-    };
-    match first_early(&path, &instances, promise, borders) {
-        None => Ok(Distances::Kept),
-        Some(early) => Ok(Distances::TooEarly(early)),
-    }
+    let found = found_in(work, &path, &instances, promise, trips);
+    Ok(found)
 }
 
 /// What is found where it is passed once to three times more than prolog and epilog hold iterations.

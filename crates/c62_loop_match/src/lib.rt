@@ -2,7 +2,9 @@
 #![tactic(auto)]
 
 mod begins;
+mod beyond;
 mod borders;
+mod collapse;
 mod counted;
 mod decision;
 mod distances;
@@ -19,6 +21,8 @@ mod steering;
 mod turns;
 mod unlined;
 
+pub use beyond::Beyond;
+pub use collapse::collapses;
 pub use counted::{is_counted_loop, touches};
 pub use decision::decide;
 pub use early::Early;

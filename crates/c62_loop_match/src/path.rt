@@ -101,7 +101,7 @@ ghost use Rattle.c62_meaning.specs.Cut.{moved};
 ghost use Rattle.c62_loop_match.specs.Path.{instance, later_of};
 
 /// The instance of an iteration.
-fn instance_of(stage: &Stage, interval: u16, passes: u16, trip: u16) -> Instance
+pub(crate) fn instance_of(stage: &Stage, interval: u16, passes: u16, trip: u16) -> Instance
     ensures { result ≡ instance (instance_of interval passes trip (stage_of stage.now)) }
 {
     match stage.early.get(usize::from(trip)) {

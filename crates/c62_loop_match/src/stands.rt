@@ -12,14 +12,14 @@ use c62_packet::Placed;
 use c62_read::SerialInsn;
 
 /// Whether a placed instruction is this one of the text, with its line.
-fn stands_as(entry: &SerialInsn, placed: &Placed) -> bool
+pub(crate) fn stands_as(entry: &SerialInsn, placed: &Placed) -> bool
     ensures { IsTrue result ↔ StandsAs entry.now placed.now }
 {
     entry.insn.same_but_for_the_unit(&placed.insn) && entry.line == placed.line
 }
 
 /// Whether each of these is.
-fn all_stand_as(entry: &SerialInsn, placed: &[Placed]) -> bool
+pub(crate) fn all_stand_as(entry: &SerialInsn, placed: &[Placed]) -> bool
     ensures { IsTrue result ↔ All (StandsAs entry.now) placed.now }
 {
     placed.iter().all(|each| stands_as(entry, each))

@@ -4,6 +4,7 @@ use c62_apart::{meetings_of, push_loops};
 use c62_read::read_program;
 use c62_serial::State;
 use c62_token::number::register;
+use std::alloc::Global;
 use std::test::Fail;
 
 /// A text, and what is told of its run from zeros with 20 blocks at most, where A4 and B4 are to be apart.
@@ -86,7 +87,43 @@ fn accesses_that_meet(rt: HostRuntime) -> Result<(), Fail> {
         let mut state = State::new(rt.alloc())?;
         let met = meetings_of(rt.alloc(), &program, &regs, &mut state, 20)?;
         let mut told = Vec::new(rt.alloc());
-        push_loops(&mut told, rt.alloc(), program.blocks(), &met)?;
+        push_loops(&mut told, rt.alloc(), 0, program.blocks(), &met)?;
+        assert_eq!(rt; told.as_slice(), want.as_bytes());
+    }
+    Ok(())
+}
+
+/// The lines of a loop in which A4 and B4 begin at the same address, that address being set.
+fn told_of(alloc: Global, base: u32, address: u32) -> Result<Vec<u8>, Fail> {
+    let text = b"MVK 2,A1\nL: LDW *A4++,A2\nSTW A2,*B4\nSUB A1,1,A1\n[A1] B L\n";
+    let program = read_program(alloc, text)?;
+    let mut state = State::new(alloc)?;
+    state.set_base(base);
+    let mut regs = Vec::new(alloc);
+    for name in [b"A4", b"B4"] {
+        if let Some(reg) = register(name) {
+            regs.push(reg)?;
+            state.set(reg, address);
+        }
+    }
+    let met = meetings_of(alloc, &program, &regs, &mut state, 20)?;
+    let mut told = Vec::new(alloc);
+    push_loops(&mut told, alloc, base, program.blocks(), &met)?;
+    Ok(told)
+}
+
+#[test]
+fn bytes_are_told_by_their_addresses(rt: HostRuntime) -> Result<(), Fail> {
+    // an address of memory, and one below it, where accesses fault
+    let rows = [
+        (
+            0x8000_0100,
+            "loop L: lines 2 and 3 touch byte 0x80000100 in iterations 1 and 2\n",
+        ),
+        (0x100, "loop L: apart held\n"),
+    ];
+    for (address, want) in rows.iter() {
+        let told = told_of(rt.alloc(), 0x8000_0000, *address)?;
         assert_eq!(rt; told.as_slice(), want.as_bytes());
     }
     Ok(())

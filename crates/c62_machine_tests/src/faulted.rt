@@ -45,7 +45,30 @@ fn faults_of_runs(rt: HostRuntime) -> Result<(), Fail> {
         let mut state = State::new(rt.alloc())?;
         let faults = faults_of(rt.alloc(), &program, &mut state, 20)?;
         let mut told = Vec::new(rt.alloc());
-        push_faults(&mut told, rt.alloc(), &faults)?;
+        push_faults(&mut told, rt.alloc(), 0, &faults)?;
+        assert_eq!(rt; told.as_slice(), want.as_bytes());
+    }
+    Ok(())
+}
+
+/// Runs with memory from 0x80000000 on. What lies below it is as far past its end as addresses go round.
+const ELSEWHERE: [(&str, &str); 2] = [
+    ("MVKLH -32768,A4\nLDW *A4,A5\n", ""),
+    (
+        "LDW *A4,A5\nMVKLH -32767,A4\nSTB A5,*A4\nMVKLH -32768,A4\nLDH *+A4[1],A5\nADD A4,1,A4\nLDH *A4,A5\n",
+        "line 1: LDW reads 4 bytes at 0x0, past the end of memory\nline 3: STB writes 1 byte at 0x80010000, past the end of memory\nline 7: LDH reads 2 bytes at 0x80000001, no multiple of 2\n",
+    ),
+];
+
+#[test]
+fn faults_where_memory_begins_elsewhere(rt: HostRuntime) -> Result<(), Fail> {
+    for (text, want) in ELSEWHERE.iter() {
+        let program = read_program(rt.alloc(), text.as_bytes())?;
+        let mut state = State::new(rt.alloc())?;
+        state.set_base(0x8000_0000);
+        let faults = faults_of(rt.alloc(), &program, &mut state, 20)?;
+        let mut told = Vec::new(rt.alloc());
+        push_faults(&mut told, rt.alloc(), 0x8000_0000, &faults)?;
         assert_eq!(rt; told.as_slice(), want.as_bytes());
     }
     Ok(())

@@ -9,7 +9,7 @@ use std::test::Fail;
 const PRINTED: [(Print, &str); 6] = [
     (
         Print {
-            address: 8,
+            place: 8,
             count: 2,
             size: Size::Word,
             signed: false,
@@ -18,7 +18,7 @@ const PRINTED: [(Print, &str); 6] = [
     ),
     (
         Print {
-            address: 8,
+            place: 8,
             count: 2,
             size: Size::Word,
             signed: true,
@@ -27,7 +27,7 @@ const PRINTED: [(Print, &str); 6] = [
     ),
     (
         Print {
-            address: 8,
+            place: 8,
             count: 2,
             size: Size::Half,
             signed: false,
@@ -36,7 +36,7 @@ const PRINTED: [(Print, &str); 6] = [
     ),
     (
         Print {
-            address: 8,
+            place: 8,
             count: 3,
             size: Size::Half,
             signed: true,
@@ -45,7 +45,7 @@ const PRINTED: [(Print, &str); 6] = [
     ),
     (
         Print {
-            address: 8,
+            place: 8,
             count: 2,
             size: Size::Byte,
             signed: false,
@@ -54,7 +54,7 @@ const PRINTED: [(Print, &str); 6] = [
     ),
     (
         Print {
-            address: 9,
+            place: 9,
             count: 1,
             size: Size::Byte,
             signed: true,
@@ -97,13 +97,10 @@ fn bytes_are_dumped(rt: HostRuntime) -> Result<(), Fail> {
     let _ = state.poke(8, 0xffff_8001);
     let mut out = Vec::new(rt.alloc());
     let settings = [
-        Setting::Dump(Dump {
-            address: 7,
-            count: 4,
-        }),
+        Setting::Dump(Dump { place: 7, count: 4 }),
         Setting::Word(8, 5),
         Setting::Dump(Dump {
-            address: 11,
+            place: 11,
             count: 1,
         }),
     ];

@@ -76,6 +76,24 @@ fn reports(rt: HostRuntime) -> Result<(), Fail> {
     Ok(())
 }
 
+/// Addresses of memory that begins elsewhere have eight digits.
+#[test]
+fn a_report_of_memory_that_begins_elsewhere(rt: HostRuntime) -> Result<(), Fail> {
+    let mut state = State::new(rt.alloc())?;
+    state.set_base(0x8000_0000);
+    let _ = state.poke(0x8000_fffc, 0x100);
+    let chain = Chain {
+        blocks: 0,
+        stop: End::End,
+    };
+    let report = serial_report(rt.alloc(), chain, &state)?;
+    assert_eq!(rt;
+        report.as_slice(),
+        b"blocks 0\nexit end\n@8000fffc 00000100\n".as_slice()
+    );
+    Ok(())
+}
+
 #[test]
 fn reports_of_flights(rt: HostRuntime) -> Result<(), Fail> {
     let alloc = rt.alloc();

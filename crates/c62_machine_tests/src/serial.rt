@@ -219,6 +219,33 @@ fn calls_of_a_state(rt: HostRuntime) -> Result<(), Fail> {
     Ok(())
 }
 
+/// Memory that begins at 0x80000000: an access is good that lies within it by its address.
+#[test]
+fn memory_that_begins_elsewhere(rt: HostRuntime) -> Result<(), Fail> {
+    let mut state = State::new(rt.alloc())?;
+    state.set_base(0x8000_0000);
+    let stores = [
+        (0x8000_0008, 4, true),
+        (0x8000_000a, 4, false),
+        (0x8000_fffc, 4, true),
+        (0x8001_0000, 1, false),
+        (0x7fff_fffc, 4, false),
+        (8, 4, false),
+    ];
+    for (address, size, want) in stores {
+        assert_eq!(&rt;
+            state.store(address, size, 0x1234_5678),
+            want,
+            "at {address}"
+        );
+    }
+    assert_eq!(&rt; state.byte(8), 0x78);
+    assert_eq!(&rt; state.load(0x8000_000a, 2), Some(0x1234));
+    assert_eq!(&rt; state.load(8, 4), None);
+    assert_eq!(rt; state.base(), 0x8000_0000);
+    Ok(())
+}
+
 /// What instructions ask of a state: what `[!A1] STW A1,*++A4[A1]` reads, bytes loaded with and without
 /// their sign, and accesses that fault.
 #[test]

@@ -5,6 +5,7 @@ use Rattle.std.specs.Prelude.{slice_index, is_some, option_map, ◌||◌, if◌t
 use Rattle.std.specs.List.{zip, list_any}
 use Rattle.std.specs.Option.{option_to_list}
 use Rattle.std.proofs.lemmas.Bool.{cases_Bool, cond-true, cond-false, or_left, or_right}
+use Rattle.std.proofs.lemmas.Option.{none-some, same_Some}
 use Rattle.c62_op.specs.declared.register.Reg.{Reg}
 use Rattle.c62_op.specs.declared.register.Cond.{Cond as Condition}
 use Rattle.c62_op.specs.declared.register.Unit.{Unit as FunctionalUnit}
@@ -24,21 +25,21 @@ use Rattle.c62_op.specs.Meaning.{low_bytes_of}
 use Rattle.c62_insn.specs.Effect.{runs_of, values_of, stored, access_of, target_of}
 use Rattle.c62_op.proofs.Registers.{same_reg-refl}
 use Rattle.c62_insn.proofs.InsnLemmas.{has_unit}
-use Rattle.c62_serial.specs.Memory.{is_good, number_of, bytes_from, read}
+use Rattle.c62_serial.specs.Memory.{is_good, number_of, bytes_from, read, place_from, placed_from}
 use Rattle.c62_serial.specs.Effect.{Act, no_act, runs, operand_values, extended, loaded, act_on, act_of}
 
 abbrev pub Reads : Insn → Reg → Type 0
 Reads insn reg = reads_register insn reg ≡ true
 
--- the access of the instruction, where registers have these words
-abbrev pub access_at : Insn → (Reg → ℕ) → Option MemoryAccess
-access_at insn word = access_of (op_of insn) (operands_of insn) (operand_values word insn)
+-- the access of the instruction by its place, where memory begins at this address and registers have these words
+abbrev pub access_at : Insn → ℕ → (Reg → ℕ) → Option MemoryAccess
+access_at insn base word = placed_from base (access_of (op_of insn) (operands_of insn) (operand_values word insn))
 
--- a load of the instruction, where registers have these words, reads the byte at an address
-pub record LoadsByte (insn : Insn) (word : Reg → ℕ) (address : ℕ) : Type 0 where
+-- a load of the instruction, where registers have these words, reads the byte at a place
+pub record LoadsByte (insn : Insn) (base : ℕ) (word : Reg → ℕ) (address : ℕ) : Type 0 where
   pub access : MemoryAccess
   pub runs : runs word insn ≡ true
-  pub accesses : access_at insn word ≡ Some access
+  pub accesses : access_at insn base word ≡ Some access
   pub loads : access.value ≡ None
   pub good : is_good access.address access.size ≡ true
   pub low : access.address ≤ address
@@ -94,54 +95,57 @@ loaded_same op None byte byte' h = refl
 loaded_same op (Some access) byte byte' h = loaded_value op access.value byte byte' access.address access.size
     (h access refl)
 
-on_same : (insn : Insn) (word : Reg → ℕ) (byte byte' : ℕ → ℕ) → runs word insn ≡ true
-    → ((a : ℕ) → LoadsByte insn word a → byte a ≡ byte' a)
-    → act_on insn (operand_values word insn) byte ≡ act_on insn (operand_values word insn) byte'
-on_same insn word byte byte' t h =
+on_same : (insn : Insn) (base : ℕ) (word : Reg → ℕ) (byte byte' : ℕ → ℕ) → runs word insn ≡ true
+    → ((a : ℕ) → LoadsByte insn base word a → byte a ≡ byte' a)
+    → act_on insn base (operand_values word insn) byte ≡ act_on insn base (operand_values word insn) byte'
+on_same insn base word byte byte' t h =
     ap (λ l. record {
       writes = zip (register_writes insn)
           (values_of (op_of insn) (operands_of insn) (operand_values word insn) ++ option_to_list l);
-      access = access_at insn word;
+      access = access_at insn base word;
       target = target_of (operands_of insn) (operand_values word insn);
     })
-    (loaded_same (op_of insn) (access_at insn word) byte byte'
+    (loaded_same (op_of insn) (access_at insn base word) byte byte'
     (λ access e v g a l u. h a
     (record { access = access; runs = t; accesses = e; loads = v; good = g; low = l; high = u })))
 
-pub act_same : (insn : Insn) (word word' : Reg → ℕ) (byte byte' : ℕ → ℕ)
+pub act_same : (insn : Insn) (base base' : ℕ) (word word' : Reg → ℕ) (byte byte' : ℕ → ℕ) → base ≡ base'
     → ((reg : Reg) → Reads insn reg → word reg ≡ word' reg)
-    → ((a : ℕ) → LoadsByte insn word' a → byte a ≡ byte' a) → act_of insn word byte ≡ act_of insn word' byte'
-act_same insn word word' byte byte' same_word same_byte =
+    → ((a : ℕ) → LoadsByte insn base' word' a → byte a ≡ byte' a)
+    → act_of insn base word byte ≡ act_of insn base' word' byte'
+act_same insn base base' word word' byte byte' same_base same_word same_byte =
     let c : runs word insn ≡ runs word' insn = runs_same (cond_of insn) word word'
     (λ reg h. same_word reg (or_right _ _ h)) in
     let m : operand_values word insn ≡ operand_values word' insn = words_same (operand_reads insn) word word'
     (λ reg h. same_word reg (or_left _ _ h)) in
-    ap (λ b. if b then act_on insn (operand_values word insn) byte else no_act) c
-    ∙ ap (λ reads. if runs word' insn then act_on insn reads byte else no_act) m
-    ∙ ⊎_elim {C = (if runs word' insn then act_on insn (operand_values word' insn) byte else no_act) ≡ act_of insn word'
+    ap (λ b. if b then act_on insn base (operand_values word insn) byte else no_act) c
+    ∙ ap (λ reads. if runs word' insn then act_on insn base reads byte else no_act) m
+    ∙ ap (λ from. if runs word' insn then act_on insn from (operand_values word' insn) byte else no_act) same_base
+    ∙ ⊎_elim {C = (if runs word' insn then act_on insn base' (operand_values word' insn) byte else no_act)
+    ≡ act_of insn base' word'
     byte'}
-    (λ t. cond-true _ _ no_act t ∙ on_same insn word' byte byte' t same_byte ∙ sym (cond-true _ _ no_act t))
+    (λ t. cond-true _ _ no_act t ∙ on_same insn base' word' byte byte' t same_byte ∙ sym (cond-true _ _ no_act t))
     (λ t. cond-false _ _ no_act t ∙ sym (cond-false _ _ no_act t))
     (cases_Bool (runs word' insn))
 
 -- what an instruction of these parts does
-abbrev act_by : Op → Operands → Option Condition → (Reg → ℕ) → (ℕ → ℕ) → Act
-act_by op operands cond word byte =
+abbrev act_by : Op → Operands → Option Condition → ℕ → (Reg → ℕ) → (ℕ → ℕ) → Act
+act_by op operands cond base word byte =
     if runs_of cond (option_map (λ c. word c.reg) cond) then record {
       writes = zip (writes_of op operands)
           (values_of op operands (map word (reads_of op operands)) ++ option_to_list
-          (loaded byte op (access_of op operands (map word (reads_of op operands)))));
-      access = access_of op operands (map word (reads_of op operands));
+          (loaded byte op (placed_from base (access_of op operands (map word (reads_of op operands))))));
+      access = placed_from base (access_of op operands (map word (reads_of op operands)));
       target = target_of operands (map word (reads_of op operands));
     } else no_act
 
 -- it does not depend on the written unit
-pub same_act : (one other : Insn) (word : Reg → ℕ) (byte : ℕ → ℕ) → IsSameInsn one other
-    → act_of one word byte ≡ act_of other word byte
-same_act one other word byte h =
-    ap (λ (op : Op). act_by op (operands_of one) (cond_of one) word byte) h.op
-    ∙ ap (λ (operands : Operands). act_by (op_of other) operands (cond_of one) word byte) h.operands
-    ∙ ap (λ (cond : Option Condition). act_by (op_of other) (operands_of other) cond word byte) h.cond
+pub same_act : (one other : Insn) (base : ℕ) (word : Reg → ℕ) (byte : ℕ → ℕ) → IsSameInsn one other
+    → act_of one base word byte ≡ act_of other base word byte
+same_act one other base word byte h =
+    ap (λ (op : Op). act_by op (operands_of one) (cond_of one) base word byte) h.op
+    ∙ ap (λ (operands : Operands). act_by (op_of other) operands (cond_of one) base word byte) h.operands
+    ∙ ap (λ (cond : Option Condition). act_by (op_of other) (operands_of other) cond base word byte) h.cond
 
 -- ---- loads and stores
 
@@ -185,16 +189,26 @@ access_stores op (Access reg base form offset) reads access value e v =
     either false a = cc
 access_stores op _ reads access value e v = cc
 
-pub is_loads : (insn : Insn) (word : Reg → ℕ) (a : ℕ) → LoadsByte insn word a → is_load (op_of insn) ≡ true
-is_loads insn word a h =
-    let u = has_unit insn in
-    access_loads (op_of insn) (operands_of insn) u.0 (operand_values word insn) h.access u.1 h.accesses h.loads
+-- an access by its place is one by its address
+pub unplaced : (base : ℕ) (found : Option MemoryAccess) (access : MemoryAccess) → placed_from base found ≡ Some access
+    → (raw : MemoryAccess) × (found ≡ Some raw) × (record raw { address = place_from base raw.address } ≡ access)
+unplaced base None access e = absurd (none-some access e)
+unplaced base (Some raw) access e = (raw, refl, same_Some _ access e)
 
-pub is_stores : (insn : Insn) (word : Reg → ℕ) (access : MemoryAccess) (value : ℕ) → access_at insn word ≡ Some access
-    → access.value ≡ Some value
-    → is_store (op_of insn) ≡ true
-is_stores insn word access value e v = access_stores (op_of insn) (operands_of insn) (operand_values word insn) access
-    value e v
+pub is_loads : (insn : Insn) (base : ℕ) (word : Reg → ℕ) (a : ℕ) → LoadsByte insn base word a
+    → is_load (op_of insn) ≡ true
+is_loads insn base word a h =
+    let u = has_unit insn in
+    let r = unplaced base (access_of (op_of insn) (operands_of insn) (operand_values word insn)) h.access h.accesses in
+    access_loads (op_of insn) (operands_of insn) u.0 (operand_values word insn) r.0 u.1 r.1
+    (ap (λ (m : MemoryAccess). m.value) r.2 ∙ h.loads)
+
+pub is_stores : (insn : Insn) (base : ℕ) (word : Reg → ℕ) (access : MemoryAccess) (value : ℕ)
+    → access_at insn base word ≡ Some access → access.value ≡ Some value → is_store (op_of insn) ≡ true
+is_stores insn base word access value e v =
+    let r = unplaced base (access_of (op_of insn) (operands_of insn) (operand_values word insn)) access e in
+    access_stores (op_of insn) (operands_of insn) (operand_values word insn) r.0 value r.1
+    (ap (λ (m : MemoryAccess). m.value) r.2 ∙ v)
 
 pub load_not_store : (op : Op) → is_load op ≡ true → is_store op ≡ true → ⊥
 load_not_store Ldb a b = cc

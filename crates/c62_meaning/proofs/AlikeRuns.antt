@@ -93,12 +93,13 @@ acts_alike block others s s' zero alike same p q e = refl
 acts_alike block others s s' (suc k) alike same p q e =
     let h : FindAlike block others s s' (acts_to block s k) (acts_to others s' k)
     = record { alike = alike; same = same; acts = acts_alike block others s s' k alike same } in
-    act_same p.insn (word_before block s (acts_to block s k) p.cycle)
+    act_same p.insn s.base s'.base (word_before block s (acts_to block s k) p.cycle)
     (word_before others s' (acts_to others s' k) p.cycle)
     (byte_before block s (acts_to block s k) p.cycle) (byte_before others s' (acts_to others s' k) p.cycle)
+    (ap (λ (m : Machine). m.base) same)
     (λ reg _. words_alike block others s s' (acts_to block s k) (acts_to others s' k) p.cycle reg h)
     (λ a _. bytes_alike block others s s' (acts_to block s k) (acts_to others s' k) p.cycle a h)
-    ∙ ap (λ (i : Issue). act_of i.insn (word_before others s' (acts_to others s' k) i.cycle)
+    ∙ ap (λ (i : Issue). act_of i.insn s'.base (word_before others s' (acts_to others s' k) i.cycle)
     (byte_before others s' (acts_to others s' k) i.cycle)) e
 
 runs_alike : (block others : List Placed) (s s' : Machine) → issues_of block ≡ issues_of others → AreSameButFaults s s'
@@ -134,6 +135,7 @@ same_left : (block others : List Placed) (cycles : ℕ) (opening opening' final 
 same_left block others cycles opening opening' final final' h p q =
     same_machine (without_faults final) (without_faults final') (bare_is_sound final p.sound)
     (bare_is_sound final' q.sound) (record {
+      base = p.base ∙ ap (λ (m : Machine). m.base) h.same ∙ sym q.base;
       words = λ reg. p.words reg
           ∙ words_alike block others opening opening' (the_run block opening) (the_run others opening') cycles reg h
           ∙ sym (q.words reg);

@@ -16,8 +16,8 @@ use Rattle.c62_op.proofs.Registers.{same_register}
 use Rattle.c62_insn.specs.declared.effect.Access.{Access as MemoryAccess}
 use Rattle.c62_rules.proofs.Exclusive.{exclusive-is}
 use Rattle.c62_rules.proofs.DisjointAccesses.{disjoint-is}
-use Rattle.c62_rules.proofs.Ranges.{Covers, covers, apart_bytes}
-use Rattle.c62_serial.specs.Memory.{is_good}
+use Rattle.c62_rules.proofs.Ranges.{Covers, apart_bytes}
+use Rattle.c62_serial.specs.Memory.{is_good, place_from}
 use Rattle.c62_serial.specs.Effect.{Act, no_act, runs}
 use Rattle.c62_meaning.proofs.NotBoth.{writes_runs, word_kept, not_both}
 use Rattle.c62_serial.specs.State.{index_of, word_in, byte_in}
@@ -27,7 +27,8 @@ use Rattle.c62_meaning.specs.Instances.{IsOfData, IsOfMemory}
 use Rattle.c62_meaning.proofs.Lookup.{In, Contains_from_In}
 use Rattle.c62_meaning.proofs.Acting.{Reads, LoadsByte, access_at, is_loads}
 use Rattle.c62_meaning.proofs.Landings.{from_In-writes, from_In-access, act_writes, act_accesses, stores_byte}
-use Rattle.c62_meaning.proofs.SameRuns.{Numbered, machine_at, serial_act, reg_writes, byte_writes, IsOrdered}
+use Rattle.c62_meaning.proofs.SameRuns.{Numbered, machine_at, serial_act, reg_writes, byte_writes, IsOrdered, base_at}
+use Rattle.c62_meaning.proofs.Places.{placed_covers}
 use Rattle.c62_serial.proofs.MemoryLemmas.{is_within}
 
 -- an instruction loads or stores a byte in the serial run
@@ -65,7 +66,8 @@ write_of b j v h =
       reg = r.0.0.0;
       delay = r.0.0.1;
       inside = Contains_from_In r.0.0 (register_writes (b.entry j).insn)
-          (act_writes (b.entry j).insn (word_in (machine_at b j)) (byte_in (machine_at b j)) r.0 r.1);
+          (act_writes (b.entry j).insn (machine_at b j).base (word_in (machine_at b j))
+          (byte_in (machine_at b j)) r.0 r.1);
       cell = r.2;
       time = r.3;
     }
@@ -75,7 +77,8 @@ store_of : (b : Numbered) (j : ℕ) (v : Landing) → In v (byte_writes b j) →
     × (v.time ≡ 8 * (b.at j).cycle + unit_index (b.at j).unit)
 store_of b j v h =
     let s = from_In-access (access_time (b.at j)) (serial_act b j).access v h in (
-      stores_byte (b.entry j).insn (word_in (machine_at b j)) (byte_in (machine_at b j)) (access_time (b.at j)) v s,
+      stores_byte (b.entry j).insn (machine_at b j).base (word_in (machine_at b j)) (byte_in (machine_at b j))
+          (access_time (b.at j)) v s,
       s.at,
     )
 
@@ -92,8 +95,8 @@ exclusive_order b h j k v w l u c d both =
     let reg : m.0 ≡ x.one.reg = same_register m.0 x.one.reg same in
     x.unwritten i m.1 (b.entry i).insn low high (h.stands i (omega (arith, high, u)))
     (subst (λ (r : Reg). Contains (register_writes (b.entry i).insn) (r, m.1)) reg writes))
-    (writes_runs (b.entry j).insn (word_in (machine_at b j)) (byte_in (machine_at b j)) p.0 p.1)
-    (writes_runs (b.entry k).insn (word_in (machine_at b k)) (byte_in (machine_at b k)) q.0 q.1)
+    (writes_runs (b.entry j).insn (machine_at b j).base (word_in (machine_at b j)) (byte_in (machine_at b j)) p.0 p.1)
+    (writes_runs (b.entry k).insn (machine_at b k).base (word_in (machine_at b k)) (byte_in (machine_at b k)) q.0 q.1)
 
 reg_order : (b : Numbered) → KeepsData b → (j k : ℕ) (v w : Landing) → j < k → k < b.count → In v (reg_writes b j)
     → In w (reg_writes b k) → v.cell ≡ w.cell → v.time < w.time
@@ -135,28 +138,30 @@ reg_kept b h j k w reg l u reads d e =
     omega (arith, ints)
 
 -- the instruction, with these words in registers, makes an access that covers the byte at an address
-record Touches (insn : Insn) (word : Reg → ℕ) (address : ℕ) : Type 0 where
+record Touches (insn : Insn) (base : ℕ) (word : Reg → ℕ) (address : ℕ) : Type 0 where
   access : MemoryAccess
-  accesses : access_at insn word ≡ Some access
+  accesses : access_at insn base word ≡ Some access
   within : access.address + access.size ≤ 65536
   low : access.address ≤ address
   high : address < access.address + access.size
 
 stored_touches : (b : Numbered) (j : ℕ) (v : Landing) → In v (byte_writes b j)
-    → Touches (b.entry j).insn (word_in (machine_at b j)) v.cell
+    → Touches (b.entry j).insn (machine_at b j).base (word_in (machine_at b j)) v.cell
 stored_touches b j v h =
     let s = from_In-access (access_time (b.at j)) (serial_act b j).access v h in
     record {
       access = s.access;
-      accesses = (act_accesses (b.entry j).insn (word_in (machine_at b j)) (byte_in (machine_at b j)) s.access
+      accesses = (act_accesses (b.entry j).insn (machine_at b j).base (word_in (machine_at b j))
+          (byte_in (machine_at b j)) s.access
           s.accesses).1;
       within = is_within s.access.address s.access.size s.good;
       low = s.low;
       high = s.high;
     }
 
-loaded_touches : (b : Numbered) (k address : ℕ) → LoadsByte (b.entry k).insn (word_in (machine_at b k)) address
-    → Touches (b.entry k).insn (word_in (machine_at b k)) address
+loaded_touches : (b : Numbered) (k address : ℕ)
+    → LoadsByte (b.entry k).insn (machine_at b k).base (word_in (machine_at b k)) address
+    → Touches (b.entry k).insn (machine_at b k).base (word_in (machine_at b k)) address
 loaded_touches b k address h = record {
   access = h.access;
   accesses = h.accesses;
@@ -170,7 +175,8 @@ stored_at b j v h =
     let s = from_In-access (access_time (b.at j)) (serial_act b j).access v h in
     record { access = s.access; accesses = s.accesses; good = s.good; low = s.low; high = s.high }
 
-loaded_at : (b : Numbered) (k address : ℕ) → LoadsByte (b.entry k).insn (word_in (machine_at b k)) address
+loaded_at : (b : Numbered) (k address : ℕ)
+    → LoadsByte (b.entry k).insn (machine_at b k).base (word_in (machine_at b k)) address
     → AccessesAt b k address
 loaded_at b k address h = record {
   access = h.access;
@@ -183,24 +189,31 @@ loaded_at b k address h = record {
 
 -- disjoint accesses touch no byte together
 not_the_same : (b : Numbered) (h : KeepsData b) (j k a : ℕ) → j < k → k < b.count
-    → Touches (b.entry j).insn (word_in (machine_at b j)) a
-    → Touches (b.entry k).insn (word_in (machine_at b k)) a → are_disjoint h.path j k ≡ true → ⊥
+    → Touches (b.entry j).insn (machine_at b j).base (word_in (machine_at b j)) a
+    → Touches (b.entry k).insn (machine_at b k).base (word_in (machine_at b k)) a → are_disjoint h.path j k ≡ true → ⊥
 not_the_same b h j k a l u p q both =
     let x = disjoint-is h.path j k (b.entry j).insn (b.entry k).insn l (h.stands j (omega (arith, l, u))) (h.stands k u)
     both in
-    let c : Covers (word_in (machine_at b j) x.one.base) x.one p.access = covers (b.entry j).insn
-    (word_in (machine_at b j)) x.one p.access x.is_one p.accesses in
-    let d : Covers (word_in (machine_at b k) x.other.base) x.other q.access = covers (b.entry k).insn
-    (word_in (machine_at b k)) x.other q.access x.is_other q.accesses in
+    let c : Covers (place_from (machine_at b j).base (word_in (machine_at b j) x.one.base)) x.one p.access
+    = placed_covers (b.entry j).insn (machine_at b j).base (word_in (machine_at b j)) x.one p.access
+    x.is_one p.accesses in
+    let d : Covers (place_from (machine_at b k).base (word_in (machine_at b k) x.other.base)) x.other q.access
+    = placed_covers (b.entry k).insn (machine_at b k).base (word_in (machine_at b k)) x.other q.access x.is_other
+    q.accesses in
     let kept : word_in (machine_at b k) x.one.base ≡ word_in (machine_at b j) x.one.base
     = word_kept b j k x.one.base (omega (arith, l))
     (λ i m low high writes same.
     let reg : m.0 ≡ x.one.base = same_register m.0 x.one.base same in
     x.unwritten i m.1 (b.entry i).insn low high (h.stands i (omega (arith, high, u)))
     (subst (λ (r : Reg). Contains (register_writes (b.entry i).insn) (r, m.1)) reg writes)) in
-    let base : word_in (machine_at b k) x.other.base ≡ word_in (machine_at b j) x.one.base = ap
-    (λ (r : Reg). word_in (machine_at b k) r) (sym x.same) ∙ kept in
-    apart_bytes (word_in (machine_at b j) x.one.base) x.one x.other p.access q.access a x.apart c
+    let begins : (machine_at b k).base ≡ (machine_at b j).base = base_at b k ∙ sym (base_at b j) in
+    let base : place_from (machine_at b k).base (word_in (machine_at b k) x.other.base) ≡
+    place_from (machine_at b j).base (word_in (machine_at b j) x.one.base) = ap
+    (λ (r : Reg). place_from (machine_at b k).base (word_in (machine_at b k) r)) (sym x.same)
+    ∙ ap (λ (v : ℕ). place_from (machine_at b k).base v) kept
+    ∙ ap (λ (v : ℕ). place_from v (word_in (machine_at b j) x.one.base)) begins in
+    apart_bytes (place_from (machine_at b j).base (word_in (machine_at b j) x.one.base)) x.one x.other p.access
+    q.access a x.apart c
     (subst (λ (v : ℕ). Covers v x.other q.access) base d)
     p.within q.within p.low p.high q.low q.high
 
@@ -214,7 +227,7 @@ ordered b h = record {
       let q = store_of b k w d in
       let free : are_disjoint h.path j k ≡ false = false_from_ne_true (are_disjoint h.path j k)
       (not_the_same b h j k v.cell l u (stored_touches b j v c)
-      (subst (λ (a : ℕ). Touches (b.entry k).insn (word_in (machine_at b k)) a) (sym e)
+      (subst (λ (a : ℕ). Touches (b.entry k).insn (machine_at b k).base (word_in (machine_at b k)) a) (sym e)
       (stored_touches b k w d))) in
       let bound : (pos (b.at j).cycle +ℤ pos 1) ≤ℤ pos (b.at k).cycle = h.keeps j k (pos 1) l u
       (AfterStore p.0 (inr q.0) free refl) tt
@@ -229,7 +242,8 @@ ordered b h = record {
       (not_the_same b h j k v.cell l u (stored_touches b j v c) (loaded_touches b k v.cell loads)) in
       let bound : (pos (b.at j).cycle +ℤ pos 1) ≤ℤ pos (b.at k).cycle
       = h.keeps j k (pos 1) l u
-      (AfterStore p.0 (inl (is_loads (b.entry k).insn (word_in (machine_at b k)) v.cell loads)) free refl) tt
+      (AfterStore p.0 (inl (is_loads (b.entry k).insn (machine_at b k).base (word_in (machine_at b k)) v.cell loads))
+      free refl) tt
       (λ m. (v.cell, stored_at b j v c, loaded_at b k v.cell loads)) in
       let s : v.time ≡ 8 * (b.at j).cycle + unit_index (b.at j).unit = p.1 in
       let rank : unit_index (b.at j).unit < 8 = index_of-below (b.at j).unit in
@@ -240,7 +254,8 @@ ordered b h = record {
       (not_the_same b h j k w.cell l u (loaded_touches b j w.cell loads) (stored_touches b k w d)) in
       let bound : (pos (b.at j).cycle +ℤ pos 0) ≤ℤ pos (b.at k).cycle
       = h.keeps j k (pos 0) l u
-      (StoreAfterLoad (is_loads (b.entry j).insn (word_in (machine_at b j)) w.cell loads) q.0 free refl) tt
+      (StoreAfterLoad (is_loads (b.entry j).insn (machine_at b j).base (word_in (machine_at b j)) w.cell loads) q.0
+      free refl) tt
       (λ m. (w.cell, loaded_at b j w.cell loads, stored_at b k w d)) in
       let t : w.time ≡ 8 * (b.at k).cycle + unit_index (b.at k).unit = q.1 in
       omega (arith, ints);

@@ -102,14 +102,15 @@ module _ (t : ℕ) (issued : List Placed) (opening : Machine) (did : Did) (drain
         let k = subst (λ (a : Act). In write a.writes) (run p h) (In_from_Contains write (did p).writes w) in
         let d : write.0.1 ≤ greatest_delay (register_writes p.insn)
         = past_write (register_writes p.insn) write.0
-        (act_writes p.insn (word_before issued opening did p.cycle) (byte_before issued opening did p.cycle)
+        (act_writes p.insn opening.base (word_before issued opening did p.cycle)
+        (byte_before issued opening did p.cycle)
         write k) in
         let e : p.cycle + greatest_delay (register_writes p.insn) + 1 ≤ t = ends p h in
         omega arith;
   }
 
-pub within : (insn : Insn) (word : Reg → ℕ) (a : ℕ) → LoadsByte insn word a → a < 65536
-within insn word a h =
+pub within : (insn : Insn) (base : ℕ) (word : Reg → ℕ) (a : ℕ) → LoadsByte insn base word a → a < 65536
+within insn base word a h =
     let inside : nat_le (h.access.address + h.access.size) 65536 ≡ true =
     (and_parts (eqb (h.access.address % h.access.size) 0) (nat_le (h.access.address + h.access.size) 65536)
     h.good).1 in

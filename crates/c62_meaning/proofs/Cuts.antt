@@ -24,6 +24,7 @@ use Rattle.c62_meaning.proofs.CutWords.{bytes_landed, within}
 -- what runs early, and what it leaves by the cut, sound or not
 pub record IsLeft (t : ℕ) (early : List Placed) (opening : Machine) (did : Did) (middle : Machine) : Type 0 where
   pub run : IsRun early opening did
+  pub base : middle.base ≡ opening.base
   pub words : (reg : Reg) → word_in middle reg ≡ word_before early opening did t reg
   pub bytes : (a : ℕ) → a < 65536 → byte_in middle a ≡ byte_before early opening did t a
   pub faults : (line : ℕ) → Contains middle.faults line ↔ (Contains opening.faults line ⊎ HasFaulted early did line)
@@ -31,7 +32,7 @@ pub record IsLeft (t : ℕ) (early : List Placed) (opening : Machine) (did : Did
 left_by : (t : ℕ) (early : List Placed) (opening : Machine) (did : Did) (middle : Machine)
     → RunsTo early t opening did middle → IsLeft t early opening did middle
 left_by t early opening did middle r = record
-    { run = r.run; words = r.leaves.words; bytes = r.leaves.bytes; faults = r.leaves.faults }
+    { run = r.run; base = r.leaves.base; words = r.leaves.words; bytes = r.leaves.bytes; faults = r.leaves.faults }
 
 -- back and on again
 pub moved_back : (t : ℕ) (ps : List Placed) → ((p : Placed) → In p ps → t ≤ p.cycle)
@@ -85,12 +86,13 @@ module _ (t : ℕ) (early late : List Placed) where
 -- what is issued by t doesn't see what is issued from then on, whether or not it has landed
 module _ (t : ℕ) (early late : List Placed) (opening : Machine) (did : Did) where
   act_ahead : (p : Placed) → p.cycle ≤ t
-      → act_of p.insn (word_before (behind t early late) opening did p.cycle)
+      → act_of p.insn opening.base (word_before (behind t early late) opening did p.cycle)
       (byte_before (behind t early late) opening did p.cycle)
-      ≡ act_of p.insn (word_before early opening did p.cycle) (byte_before early opening did p.cycle)
+      ≡ act_of p.insn opening.base (word_before early opening did p.cycle) (byte_before early opening did p.cycle)
   act_ahead p l =
-      act_same p.insn (word_before (behind t early late) opening did p.cycle) (word_before early opening did p.cycle)
-      (byte_before (behind t early late) opening did p.cycle) (byte_before early opening did p.cycle)
+      act_same p.insn opening.base opening.base (word_before (behind t early late) opening did p.cycle)
+      (word_before early opening did p.cycle)
+      (byte_before (behind t early late) opening did p.cycle) (byte_before early opening did p.cycle) refl
       (λ reg _. word_ahead t early late opening did p.cycle reg l)
       (λ a _. byte_ahead t early late opening did p.cycle a l)
 
@@ -126,15 +128,18 @@ module _ (t : ℕ) (early late : List Placed) (opening : Machine) (did : Did) (h
         ∙ ap (λ old. value_before a (8 * u) (flat_map (memory_landings (since t did)) late) old) (sym (first.bytes a l))
 
     act_behind : (p : Placed)
-        → act_of p.insn (word_before (behind t early late) opening did (t + p.cycle))
+        → act_of p.insn opening.base (word_before (behind t early late) opening did (t + p.cycle))
         (byte_before (behind t early late) opening did (t + p.cycle))
-        ≡ act_of p.insn (word_before late middle (since t did) p.cycle) (byte_before late middle (since t did) p.cycle)
+        ≡ act_of p.insn middle.base (word_before late middle (since t did) p.cycle)
+        (byte_before late middle (since t did) p.cycle)
     act_behind p =
-        act_same p.insn (word_before (behind t early late) opening did (t + p.cycle))
+        act_same p.insn opening.base middle.base (word_before (behind t early late) opening did (t + p.cycle))
         (word_before late middle (since t did) p.cycle)
         (byte_before (behind t early late) opening did (t + p.cycle)) (byte_before late middle (since t did) p.cycle)
+        (sym first.base)
         (λ reg _. word_behind p.cycle reg)
-        (λ a loads. byte_behind p.cycle a (within p.insn (word_before late middle (since t did) p.cycle) a loads))
+        (λ a loads. byte_behind p.cycle a (within p.insn middle.base (word_before late middle (since t did) p.cycle)
+        a loads))
 
     -- the run of the whole is then that of the late
     goes_on : IsRun (behind t early late) opening did ↔ IsRun late middle (since t did)
@@ -143,7 +148,7 @@ module _ (t : ℕ) (early late : List Placed) (opening : Machine) (did : Did) (h
       (λ run q h. elim (in_one t early late q h) [
         | inl k ↦ first.run q k
             ∙ sym (act_ahead t early late opening did q (let l : q.cycle < t = have.before q k in omega arith))
-        | inr r ↦ subst (λ z. did z ≡ act_of z.insn (word_before (behind t early late) opening did z.cycle)
+        | inr r ↦ subst (λ z. did z ≡ act_of z.insn opening.base (word_before (behind t early late) opening did z.cycle)
             (byte_before (behind t early late) opening did z.cycle)) r.2
             (run r.0 r.1 ∙ sym (act_behind r.0))
       ]),
@@ -173,6 +178,7 @@ module _ (t : ℕ) (early late : List Placed) (opening : Machine) (did : Did) (h
     leaves_on cycles final = (
       (λ h. record {
         sound = h.sound;
+        base = h.base ∙ sym first.base;
         words = λ reg. h.words reg ∙ word_behind cycles reg;
         bytes = λ a l. h.bytes a l ∙ byte_behind cycles a l;
         faults = λ line. (
@@ -182,6 +188,7 @@ module _ (t : ℕ) (early late : List Placed) (opening : Machine) (did : Did) (h
       }),
       (λ h. record {
         sound = h.sound;
+        base = h.base ∙ first.base;
         words = λ reg. h.words reg ∙ sym (word_behind cycles reg);
         bytes = λ a l. h.bytes a l ∙ sym (byte_behind cycles a l);
         faults = λ line. (

@@ -83,7 +83,8 @@ no_target b last k l = of_target (serial_act b k).target refl
     of_target None e = e
     of_target (Some target) e =
         let same : k + 1 ≡ b.count = last k (omega arith)
-        (goes_branch (b.entry k).insn (word_in (machine_at b k)) (byte_in (machine_at b k)) target e) in
+        (goes_branch (b.entry k).insn (machine_at b k).base (word_in (machine_at b k)) (byte_in (machine_at b k))
+        target e) in
         absurd (omega arith)
 
 pub exit_end : (block : List Placed) (b : Numbered) (did : Did) → IsBlock block b → AllAgree b did → BranchLast b

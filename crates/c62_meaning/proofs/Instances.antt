@@ -30,7 +30,7 @@ use Rattle.c62_meaning.specs.Instances.{DataBounds, MetBounds, Accesses, AreInst
 use Rattle.c62_meaning.specs.Instances.{InstancesAreSerialFrom, InstancesAreSerial}
 use Rattle.c62_meaning.proofs.Lookup.{In, In_from_Contains, Contains_from_In}
 use Rattle.c62_meaning.proofs.SameRuns.{Numbered, ran_at, machine_at, serial_act, reg_writes, IsBlock, IsOrdered}
-use Rattle.c62_meaning.proofs.SameRuns.{RunsAt, IsOver, sound_at, agrees, word_end, byte_end}
+use Rattle.c62_meaning.proofs.SameRuns.{base_at, RunsAt, IsOver, sound_at, agrees, word_end, byte_end}
 use Rattle.c62_meaning.proofs.Acting.{same_act}
 use Rattle.c62_meaning.proofs.CellOrder.{AccessesAt, ordered}
 use Rattle.c62_meaning.proofs.Ends.{AllStand, AllAgree, drained}
@@ -50,7 +50,7 @@ module _ (block : List Placed) (b : Numbered) (did : Did) (is : IsBlock block b)
   runs : RunsAt block b did
   runs i l =
       run (b.at i) (Contains_from_In (b.at i) block (is.all i l))
-      ∙ sym (same_act (b.entry i).insn (b.at i).insn (word_before block b.opening did (b.at i).cycle)
+      ∙ sym (same_act (b.entry i).insn (b.at i).insn b.opening.base (word_before block b.opening did (b.at i).cycle)
       (byte_before block b.opening did (b.at i).cycle) (stand i l).insn)
 
   pub all_agree : AllAgree b did
@@ -60,6 +60,7 @@ module _ (block : List Placed) (b : Numbered) (did : Did) (is : IsBlock block b)
   pub state_over : (t : ℕ) → IsOver b t → LeavesState block t b.opening did (machine_at b b.count)
   state_over t end = record {
     sound = sound_at b sound b.count;
+    base = base_at b b.count;
     words = λ reg. sym (word_end block b did t reg is order sound runs end);
     bytes = λ a l. sym (byte_end block b did t a is order sound runs end);
     faults = λ line. faults_end block b did line is stand all_agree;

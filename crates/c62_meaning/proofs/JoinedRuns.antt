@@ -41,6 +41,7 @@ runs_to issued cycles opening did sound run =
 nothing_left : (t : ℕ) (opening : Machine) (did : Did) → IsLeft t [] opening did opening
 nothing_left t opening did = record {
   run = λ p h. absurd (In_from_Contains p [] h);
+  base = refl;
   words = λ reg. refl;
   bytes = λ a l. refl;
   faults = λ line. ((λ c. inl c), (λ c. elim c [ inl q ↦ q | inr q ↦ absurd (In_from_Contains q.placed [] q.inside) ]));
@@ -53,7 +54,10 @@ nothing_landed t did = record
 pub runs_nothing : (cycles : ℕ) (opening : Machine) (did : Did) → IsSound opening → RunsTo [] cycles opening did opening
 runs_nothing cycles opening did sound =
     let l = nothing_left cycles opening did in
-    record { run = l.run; leaves = record { sound = sound; words = l.words; bytes = l.bytes; faults = l.faults } }
+    record {
+      run = l.run;
+      leaves = record { sound = sound; base = l.base; words = l.words; bytes = l.bytes; faults = l.faults };
+    }
 
 pub nothing_runs : (cycles : ℕ) (opening : Machine) (did : Did) (final : Machine) → IsSound opening
     → RunsTo [] cycles opening did final → final ≡ opening

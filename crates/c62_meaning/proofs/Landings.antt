@@ -61,11 +61,12 @@ In-zip (k ∷ ks) (v ∷ vs) w (inl e) = inl (ap (λ (u : (Reg × ℕ) × ℕ). 
 In-zip (k ∷ ks) (v ∷ vs) w (inr h) = inr (In-zip ks vs w h)
 
 -- what an instruction writes is among its writes
-pub act_writes : (insn : Insn) (word : Reg → ℕ) (byte : ℕ → ℕ) (w : (Reg × ℕ) × ℕ) → In w (act_of insn word byte).writes
+pub act_writes : (insn : Insn) (base : ℕ) (word : Reg → ℕ) (byte : ℕ → ℕ) (w : (Reg × ℕ) × ℕ)
+    → In w (act_of insn base word byte).writes
     → In w.0 (register_writes insn)
-act_writes insn word byte w =
+act_writes insn base word byte w =
     let P : Act → Type 0 = λ a. In w a.writes → In w.0 (register_writes insn) in
-    cond_both (runs word insn) (act_on insn (operand_values word insn) byte) no_act P
+    cond_both (runs word insn) (act_on insn base (operand_values word insn) byte) no_act P
     (λ t h. In-zip (register_writes insn) _ w h) (λ t h. absurd h)
 
 -- the writes of an instruction come in the order of their delays
@@ -115,11 +116,11 @@ InOrder-zip cell cycle (k ∷ ks) (v ∷ vs) h = (
   InOrder-zip cell cycle ks vs h.1,
 )
 
-pub InOrder-act : (cell cycle : ℕ) (insn : Insn) (word : Reg → ℕ) (byte : ℕ → ℕ)
-    → InOrder cell (map (write_landing cycle) (act_of insn word byte).writes)
-InOrder-act cell cycle insn word byte =
+pub InOrder-act : (cell cycle : ℕ) (insn : Insn) (base : ℕ) (word : Reg → ℕ) (byte : ℕ → ℕ)
+    → InOrder cell (map (write_landing cycle) (act_of insn base word byte).writes)
+InOrder-act cell cycle insn base word byte =
     let P : Act → Type 0 = λ a. InOrder cell (map (write_landing cycle) a.writes) in
-    cond_both (runs word insn) (act_on insn (operand_values word insn) byte) no_act P
+    cond_both (runs word insn) (act_on insn base (operand_values word insn) byte) no_act P
     (λ t. InOrder-zip cell cycle (register_writes insn) _ (rising_writes (op_of insn) (operands_of insn))) (λ t. tt)
 
 -- ---- memory
@@ -266,16 +267,16 @@ InOrder-access cell time (Some access) = of_value access.value
         (λ good. InOrder-bytes cell time access.address (bytes_of access.size value)) (λ bad. tt)
 
 -- the access of an act is that of its instruction, which runs
-pub act_accesses : (insn : Insn) (word : Reg → ℕ) (byte : ℕ → ℕ) (access : MemoryAccess)
-    → (act_of insn word byte).access ≡ Some access
-    → (runs word insn ≡ true) × (access_at insn word ≡ Some access)
-act_accesses insn word byte access =
+pub act_accesses : (insn : Insn) (base : ℕ) (word : Reg → ℕ) (byte : ℕ → ℕ) (access : MemoryAccess)
+    → (act_of insn base word byte).access ≡ Some access
+    → (runs word insn ≡ true) × (access_at insn base word ≡ Some access)
+act_accesses insn base word byte access =
     let P : Act → Type 0 = λ a. a.access ≡ Some access → (runs word insn ≡ true)
-    × (access_at insn word ≡ Some access) in
-    cond_both (runs word insn) (act_on insn (operand_values word insn) byte) no_act P (λ t h. (t, h)) (λ t h. cc)
+    × (access_at insn base word ≡ Some access) in
+    cond_both (runs word insn) (act_on insn base (operand_values word insn) byte) no_act P (λ t h. (t, h)) (λ t h. cc)
 
 -- what stores a byte is a store
-pub stores_byte : (insn : Insn) (word : Reg → ℕ) (byte : ℕ → ℕ) (time : ℕ) (l : Landing)
-    → IsStoredBy time (act_of insn word byte).access l → is_store (op_of insn) ≡ true
-stores_byte insn word byte time l s = is_stores insn word s.access s.value
-    (act_accesses insn word byte s.access s.accesses).1 s.stores
+pub stores_byte : (insn : Insn) (base : ℕ) (word : Reg → ℕ) (byte : ℕ → ℕ) (time : ℕ) (l : Landing)
+    → IsStoredBy time (act_of insn base word byte).access l → is_store (op_of insn) ≡ true
+stores_byte insn base word byte time l s = is_stores insn base word s.access s.value
+    (act_accesses insn base word byte s.access s.accesses).1 s.stores

@@ -4,6 +4,7 @@ pub mod Acting
 pub mod Landings
 pub mod SameRuns
 pub mod NotBoth
+pub mod Places
 pub mod CellOrder
 pub mod Runs
 pub mod Ends

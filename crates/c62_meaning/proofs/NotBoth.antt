@@ -18,11 +18,11 @@ use Rattle.c62_meaning.proofs.Landings.{act_writes}
 use Rattle.c62_meaning.proofs.SameRuns.{Numbered, machine_at, serial_act}
 
 -- what writes runs
-pub writes_runs : (insn : Insn) (word : Reg → ℕ) (byte : ℕ → ℕ) (w : (Reg × ℕ) × ℕ)
-    → In w (act_of insn word byte).writes → runs word insn ≡ true
-writes_runs insn word byte w =
+pub writes_runs : (insn : Insn) (base : ℕ) (word : Reg → ℕ) (byte : ℕ → ℕ) (w : (Reg × ℕ) × ℕ)
+    → In w (act_of insn base word byte).writes → runs word insn ≡ true
+writes_runs insn base word byte w =
     let P : Act → Type 0 = λ a. In w a.writes → runs word insn ≡ true in
-    cond_both (runs word insn) (act_on insn (operand_values word insn) byte) no_act P (λ t h. t) (λ t h. absurd h)
+    cond_both (runs word insn) (act_on insn base (operand_values word insn) byte) no_act P (λ t h. t) (λ t h. absurd h)
 
 pub opposite_tests : (a b t : Bool) → a ≢ b → cond a t (not t) ≡ true → cond b t (not t) ≡ true → ⊥
 opposite_tests true true t ne e f = ne refl
@@ -55,7 +55,7 @@ word_kept b i (suc j) reg l h =
     (λ lt. writes_elsewhere (index_of reg) (serial_act b j).writes (machine_at b j).registers
     (λ w m e. h j w.0 (omega (arith, lt)) (omega arith)
     (Contains_from_In w.0 (register_writes (b.entry j).insn)
-    (act_writes (b.entry j).insn (word_in (machine_at b j)) (byte_in (machine_at b j)) w m)) e)
+    (act_writes (b.entry j).insn (machine_at b j).base (word_in (machine_at b j)) (byte_in (machine_at b j)) w m)) e)
     ∙ word_kept b i j reg (omega (arith, lt)) (λ k w low high. h k w low (omega (arith, high))))
     (λ ge. let e : suc j ≡ i = omega (arith, ge, l) in ap (λ (k : ℕ). word_in (machine_at b k) reg) e)
     (cases_lt i (suc j))

@@ -64,19 +64,22 @@ module _ (block : List Placed) (opening : Machine) (did : Did) (run : IsRun bloc
   found p reg = word_before block opening did p.cycle reg
 
   does : (p : Placed) → In p block
-      → did p ≡ act_of p.insn (word_before block opening did p.cycle) (byte_before block opening did p.cycle)
+      → did p ≡ act_of p.insn opening.base (word_before block opening did p.cycle)
+      (byte_before block opening did p.cycle)
   does p h = run p (Contains_from_In p block h)
 
   -- a write that an instruction made is one of its writes, and it ran
   made : (p : Placed) → In p block → (w : (Reg × ℕ) × ℕ) → In w (did p).writes
       → Contains (register_writes p.insn) w.0 × (runs (word_before block opening did p.cycle) p.insn ≡ true)
   made p h w k =
-      let k' : In w (act_of p.insn (word_before block opening did p.cycle)
+      let k' : In w (act_of p.insn opening.base (word_before block opening did p.cycle)
       (byte_before block opening did p.cycle)).writes = subst (λ (a : Act). In w a.writes) (does p h) k in (
         Contains_from_In w.0 (register_writes p.insn)
-            (act_writes p.insn (word_before block opening did p.cycle) (byte_before block opening did p.cycle) w
+            (act_writes p.insn opening.base (word_before block opening did p.cycle)
+            (byte_before block opening did p.cycle) w
             k'),
-        writes_runs p.insn (word_before block opening did p.cycle) (byte_before block opening did p.cycle) w k',
+        writes_runs p.insn opening.base (word_before block opening did p.cycle)
+            (byte_before block opening did p.cycle) w k',
       )
 
   lands_in : (p : Placed) (reg : Reg) (cycle : ℕ) → In p block → HasLanded did p reg cycle

@@ -66,13 +66,13 @@ same_bytes block s did did' t a same = ap (λ o. value_or o (byte_in s a)) (same
 
 -- what an instruction does, where those issued before it did this
 abbrev pub act_after : List Placed → Machine → Did → Placed → Act
-act_after block s did p = act_of p.insn (word_before block s did p.cycle) (byte_before block s did p.cycle)
+act_after block s did p = act_of p.insn s.base (word_before block s did p.cycle) (byte_before block s did p.cycle)
 
 act_after_same : (block : List Placed) (s : Machine) (did did' : Did) (p : Placed) → Same block did did' p.cycle
     → act_after block s did p ≡ act_after block s did' p
 act_after_same block s did did' p same =
-    act_same p.insn (word_before block s did p.cycle) (word_before block s did' p.cycle)
-    (byte_before block s did p.cycle) (byte_before block s did' p.cycle)
+    act_same p.insn s.base s.base (word_before block s did p.cycle) (word_before block s did' p.cycle)
+    (byte_before block s did p.cycle) (byte_before block s did' p.cycle) refl
     (λ reg h. same_words block s did did' p.cycle reg same)
     (λ a h. same_bytes block s did did' p.cycle a same)
 

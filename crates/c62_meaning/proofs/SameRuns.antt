@@ -58,6 +58,11 @@ pub sound_at : (b : Numbered) → IsSound b.opening → (i : ℕ) → IsSound (m
 sound_at b sound zero = sound
 sound_at b sound (suc i) = sound_act (b.entry i).line (serial_act b i) (machine_at b i) (sound_at b sound i)
 
+-- and its memory begins where it began
+pub base_at : (b : Numbered) (i : ℕ) → (machine_at b i).base ≡ b.opening.base
+base_at b zero = refl
+base_at b (suc i) = base_at b i
+
 -- ---- registers and memory of the serial run, by landings
 
 pub state_word : (b : Numbered) → IsSound b.opening → (i cell : ℕ) → cell < 32
@@ -94,10 +99,10 @@ pub record IsOrdered (b : Numbered) : Type 0 where
       → In w (reg_writes b k) → w.cell ≡ index_of reg
       → (b.at j).cycle ≤ w.time
   pub byte_read : (j k : ℕ) (v : Landing) → j < k → k < b.count → In v (byte_writes b j)
-      → LoadsByte (b.entry k).insn (word_in (machine_at b k)) v.cell
+      → LoadsByte (b.entry k).insn (machine_at b k).base (word_in (machine_at b k)) v.cell
       → v.time < 8 * (b.at k).cycle
   pub byte_kept : (j k : ℕ) (w : Landing) → j < k → k < b.count
-      → LoadsByte (b.entry j).insn (word_in (machine_at b j)) w.cell → In w (byte_writes b k)
+      → LoadsByte (b.entry j).insn (machine_at b j).base (word_in (machine_at b j)) w.cell → In w (byte_writes b k)
       → 8 * (b.at j).cycle ≤ w.time
 
 -- the packets hold the instructions of these numbers, in any order
@@ -163,7 +168,8 @@ those_bytes block b did t is agree = record {
 
 ordered_regs : (b : Numbered) (cell : ℕ) → IsOrdered b → AreOrdered (reg_writes b) b.count cell
 ordered_regs b cell o = record {
-  own = λ j l. InOrder-act cell (b.at j).cycle (b.entry j).insn (word_in (machine_at b j)) (byte_in (machine_at b j));
+  own = λ j l. InOrder-act cell (b.at j).cycle (b.entry j).insn (machine_at b j).base (word_in (machine_at b j))
+      (byte_in (machine_at b j));
   ordered = λ j k v w l u c d p q. o.reg_order j k v w l u c d (p ∙ sym q);
 }
 
@@ -201,7 +207,7 @@ word_same block b did i reg is o sound l agree reads =
 -- a byte that a load reads has its serial value
 byte_same : (block : List Placed) (b : Numbered) (did : Did) (i a : ℕ) → IsBlock block b → IsOrdered b
     → IsSound b.opening → i < b.count
-    → Agrees b did (b.at i).cycle → LoadsByte (b.entry i).insn (word_in (machine_at b i)) a
+    → Agrees b did (b.at i).cycle → LoadsByte (b.entry i).insn (machine_at b i).base (word_in (machine_at b i)) a
     → byte_before block b.opening did (b.at i).cycle a ≡ byte_in (machine_at b i) a
 byte_same block b did i a is o sound l agree loads =
     lookup (byte_writes b) b.count a i (8 * (b.at i).cycle) (flat_map (memory_landings did) block) (byte_in b.opening a)
@@ -212,7 +218,7 @@ byte_same block b did i a is o sound l agree loads =
       after = λ j w ge u h p.
           ⊎_elim {C = 8 * (b.at i).cycle ≤ w.time}
           (λ e. absurd (load_not_store (op_of (b.entry i).insn)
-          (is_loads (b.entry i).insn (word_in (machine_at b i)) a loads)
+          (is_loads (b.entry i).insn (machine_at b i).base (word_in (machine_at b i)) a loads)
           (itself w (subst (λ k. In w (byte_writes b k)) (sym e) h))))
           (λ ne. o.byte_kept i j w (omega arith) u (at_cell w p) h)
           (cases_eq i j);
@@ -220,18 +226,21 @@ byte_same block b did i a is o sound l agree loads =
     (those_bytes block b did (b.at i).cycle is agree)
     ∙ sym (state_byte b sound i a)
   where
-    at_cell : (w : Landing) → w.cell ≡ a → LoadsByte (b.entry i).insn (word_in (machine_at b i)) w.cell
-    at_cell w p = subst (λ q. LoadsByte (b.entry i).insn (word_in (machine_at b i)) q) (sym p) loads
+    at_cell : (w : Landing) → w.cell ≡ a
+        → LoadsByte (b.entry i).insn (machine_at b i).base (word_in (machine_at b i)) w.cell
+    at_cell w p = subst (λ q. LoadsByte (b.entry i).insn (machine_at b i).base (word_in (machine_at b i)) q)
+        (sym p) loads
 
     itself : (w : Landing) → In w (byte_writes b i) → is_store (op_of (b.entry i).insn) ≡ true
     itself w h =
-        stores_byte (b.entry i).insn (word_in (machine_at b i)) (byte_in (machine_at b i)) (access_time (b.at i)) w
+        stores_byte (b.entry i).insn (machine_at b i).base (word_in (machine_at b i)) (byte_in (machine_at b i))
+        (access_time (b.at i)) w
         (from_In-access (access_time (b.at i)) (serial_act b i).access w h)
 
 -- each instruction does what the values before its cycle make it do
 abbrev pub RunsAt : List Placed → Numbered → Did → Type 0
 RunsAt block b did = (i : ℕ) → i < b.count
-    → did (b.at i) ≡ act_of (b.entry i).insn (word_before block b.opening did (b.at i).cycle)
+    → did (b.at i) ≡ act_of (b.entry i).insn b.opening.base (word_before block b.opening did (b.at i).cycle)
     (byte_before block b.opening did (b.at i).cycle)
 
 pub agrees : (block : List Placed) (b : Numbered) (did : Did) → IsBlock block b → IsOrdered b → IsSound b.opening
@@ -239,8 +248,9 @@ pub agrees : (block : List Placed) (b : Numbered) (did : Did) → IsBlock block 
 agrees block b did is o sound run zero i l early = absurd (omega arith)
 agrees block b did is o sound run (suc t) i l early =
     let agree : Agrees b did (b.at i).cycle = λ j u h. agrees block b did is o sound run t j u (omega arith) in
-    run i l ∙ act_same (b.entry i).insn (word_before block b.opening did (b.at i).cycle) (word_in (machine_at b i))
-    (byte_before block b.opening did (b.at i).cycle) (byte_in (machine_at b i))
+    run i l ∙ act_same (b.entry i).insn b.opening.base (machine_at b i).base
+    (word_before block b.opening did (b.at i).cycle) (word_in (machine_at b i))
+    (byte_before block b.opening did (b.at i).cycle) (byte_in (machine_at b i)) (sym (base_at b i))
     (λ reg reads. word_same block b did i reg is o sound l agree reads)
     (λ a reads. byte_same block b did i a is o sound l agree reads)
 
@@ -262,7 +272,8 @@ word_end block b did t reg is o sound run over =
           let time : w.time ≡ (b.at j).cycle + late.0.0.1 = late.3 in
           let end : (b.at j).cycle + late.0.0.1 < t
           = over.landed j late.0.0 lt
-          (act_writes (b.entry j).insn (word_in (machine_at b j)) (byte_in (machine_at b j)) late.0 late.1) in
+          (act_writes (b.entry j).insn (machine_at b j).base (word_in (machine_at b j)) (byte_in (machine_at b j))
+          late.0 late.1) in
           omega arith;
       after = λ j w ge u h p. absurd (omega arith);
     })

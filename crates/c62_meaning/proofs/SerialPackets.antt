@@ -39,6 +39,7 @@ use Rattle.c62_meaning.proofs.Instances.{order_at, all_agree, state_over}
 pub state_one : (block : List Placed) (cycles : ℕ) (opening : Machine) (did : Did) (one other : Machine)
     → LeavesState block cycles opening did one → LeavesState block cycles opening did other → one ≡ other
 state_one block cycles opening did one other p q = same_machine one other p.sound q.sound (record {
+  base = p.base ∙ sym q.base;
   words = λ reg. p.words reg ∙ sym (q.words reg);
   bytes = λ a l. p.bytes a l ∙ sym (q.bytes a l);
   faults = λ line. ((λ c. (q.faults line).1 ((p.faults line).0 c)), (λ c. (p.faults line).1 ((q.faults line).0 c)));
@@ -77,6 +78,7 @@ pub state_same : (block : List Placed) (cycles : ℕ) (opening : Machine) (did d
     → LeavesState block cycles opening did final → LeavesState block cycles opening did' final
 state_same block cycles opening did did' final same h = record {
   sound = h.sound;
+  base = h.base;
   words = λ reg. h.words reg ∙ same_words block opening did did' cycles reg (λ p i l. same p i);
   bytes = λ a l. h.bytes a l ∙ same_bytes block opening did did' cycles a (λ p i l. same p i);
   faults = λ line. (
@@ -113,6 +115,7 @@ one_meaning block cycles opening one other p q =
 
 abbrev pub made : List Placed → ℕ → Machine → Did → Machine
 made block cycles opening did = record {
+  base = opening.base;
   registers = map (λ cell. value_before cell cycles (flat_map (register_landings did) block)
       (get_or opening.registers cell 0)) (range_with_len 0 (length opening.registers));
   memory = map (λ a. byte_before block opening did cycles a) (range_with_len 0 (length opening.memory));
@@ -131,6 +134,7 @@ pub made_leaves : (block : List Placed) (cycles : ℕ) (opening : Machine) (did 
     → LeavesState block cycles opening did (made block cycles opening did)
 made_leaves block cycles opening did sound = record {
   sound = made_sound block cycles opening did sound;
+  base = refl;
   words = λ reg.
       let l : index_of reg < length opening.registers =
       (let r : index_of reg < 32 = index_within reg in let n : length opening.registers ≡ 32 = sound.registers

@@ -24,9 +24,9 @@ pub record HasOneMeaning (block : List Placed) (cycles : ℕ) (opening : Machine
 
 -- ---- packets are serial
 
--- both do the same where registers have these words and memory these bytes
+-- both do the same where memory begins at one address, and registers have these words and memory these bytes
 abbrev pub ActsAlike : Insn → Insn → Type 0
-ActsAlike one other = (word : Reg → ℕ) (byte : ℕ → ℕ) → act_of one word byte ≡ act_of other word byte
+ActsAlike one other = (base : ℕ) (word : Reg → ℕ) (byte : ℕ → ℕ) → act_of one base word byte ≡ act_of other base word byte
 
 -- an instruction of a block stands in its packets
 pub record StandsAs (entry : SerialInsn) (p : Placed) : Type 0 where

@@ -25,6 +25,7 @@ exit_by did block = fold (λ exit p. exit_after exit (did p).target) Next block
 -- what the instructions did leaves this machine after so many cycles
 pub record LeavesState (block : List Placed) (cycles : ℕ) (opening : Machine) (did : Did) (final : Machine) : Type 0 where
   pub sound : IsSound final
+  pub base : final.base ≡ opening.base
   pub words : (reg : Reg) → word_in final reg ≡ word_before block opening did cycles reg
   pub bytes : (address : ℕ) → address < MEMORY_BYTES → byte_in final address ≡ byte_before block opening did cycles address
   pub faults : (line : ℕ) → Contains final.faults line ↔ (Contains opening.faults line ⊎ HasFaulted block did line)

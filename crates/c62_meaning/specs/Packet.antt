@@ -60,4 +60,4 @@ byte_before block opening did cycle address =
 -- each instruction did what the registers and bytes before its cycle make it do
 abbrev pub IsRun : List Placed → Machine → Did → Type 0
 IsRun block opening did = (p : Placed) → Contains block p
-    → did p ≡ act_of p.insn (word_before block opening did p.cycle) (byte_before block opening did p.cycle)
+    → did p ≡ act_of p.insn opening.base (word_before block opening did p.cycle) (byte_before block opening did p.cycle)

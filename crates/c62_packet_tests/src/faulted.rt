@@ -4,7 +4,7 @@ use c62_exec::is_issuable;
 use c62_faulted::{Fault, push_faults};
 use c62_faulted_packets::{faults_of_flight, faults_of_packets};
 use c62_insn::Reg;
-use c62_insn::Side::A;
+use c62_insn::Side::{A, B};
 use c62_listing_reader::read_listing;
 use c62_rows::read_from;
 use c62_serial::State;
@@ -13,6 +13,8 @@ use std::process::Abort;
 use std::test::Fail;
 
 const A4: Reg = Reg { side: A, number: 4 };
+
+const B4: Reg = Reg { side: B, number: 4 };
 
 /// A listing, and what is told of its run with 1 in A4 and 3 blocks at most.
 const LISTINGS: [(&str, &str); 9] = [
@@ -87,9 +89,15 @@ const FLIGHTS: [(&str, &str); 8] = [
     (" NOP 9\n NOP 9\n NOP 2\n LDH .D1 *A4,A5\n", ""),
 ];
 
-fn check(rt: &impl Abort, alloc: Global, faults: &[Fault], want: &str) -> Result<(), AllocError> {
+fn check(
+    rt: &impl Abort,
+    alloc: Global,
+    base: u32,
+    faults: &[Fault],
+    want: &str,
+) -> Result<(), AllocError> {
     let mut told = Vec::new(alloc);
-    push_faults(&mut told, alloc, faults)?;
+    push_faults(&mut told, alloc, base, faults)?;
     assert_eq!(rt; told.as_slice(), want.as_bytes());
     Ok(())
 }
@@ -101,7 +109,7 @@ fn faults_of_listings(rt: HostRuntime) -> Result<(), Fail> {
         let mut state = State::new(rt.alloc())?;
         state.set(A4, 1);
         let faults = faults_of_packets(rt.alloc(), &packets, &mut state, 3)?;
-        check(&rt, rt.alloc(), &faults, want)?;
+        check(&rt, rt.alloc(), 0, &faults, want)?;
     }
     Ok(())
 }
@@ -118,7 +126,21 @@ fn faults_of_flights(rt: HostRuntime) -> Result<(), Fail> {
         let mut state = State::new(rt.alloc())?;
         state.set(A4, 1);
         let faults = faults_of_flight(rt.alloc(), &begun.rows, begun.first, 20, &mut state)?;
-        check(&rt, rt.alloc(), &faults, want)?;
+        check(&rt, rt.alloc(), 0, &faults, want)?;
     }
+    Ok(())
+}
+
+#[test]
+fn faults_where_memory_begins_elsewhere(rt: HostRuntime) -> Result<(), Fail> {
+    // the first access lies below memory, the second at its begin
+    let text = b"   LDW .D1T1 *A4,A5\n   NOP 4\n   LDW .D2T2 *B4,B5\n   NOP 4\n";
+    let want = "line 1: LDW reads 4 bytes at 0x0, past the end of memory\n";
+    let packets = read_listing(rt.alloc(), text)?;
+    let mut state = State::new(rt.alloc())?;
+    state.set_base(0x8000_0000);
+    state.set(B4, 0x8000_0000);
+    let faults = faults_of_packets(rt.alloc(), &packets, &mut state, 3)?;
+    check(&rt, rt.alloc(), 0x8000_0000, &faults, want)?;
     Ok(())
 }

@@ -37,9 +37,10 @@ none_in block opening cycle t (p ∷ ps) e early sub =
     let here : due_of t p.cycle p.line (the_run block opening p).writes ≡ []
     = ap (λ (x : Act). due_of t p.cycle p.line x.writes) same
     ∙ due_none t p.cycle p.line
-    (act_of p.insn (word_before block opening (the_run block opening) p.cycle)
+    (act_of p.insn opening.base (word_before block opening (the_run block opening) p.cycle)
     (byte_before block opening (the_run block opening) p.cycle)).writes
-    (λ w k f. let d : w.0.1 ≤ 4 = act_soon p.insn (word_before block opening (the_run block opening) p.cycle)
+    (λ w k f. let d : w.0.1 ≤ 4 = act_soon p.insn opening.base
+    (word_before block opening (the_run block opening) p.cycle)
     (byte_before block opening (the_run block opening) p.cycle) w k in omega arith) in
     ap (λ slot. slot ++ due_in (the_run block opening) t ps) here
     ∙ none_in block opening cycle t ps e (λ q k. early q (inr k)) (λ q k. sub q (inr k))
@@ -57,6 +58,7 @@ end_step block opening cycle next upto flight machine ascends h late =
         memory = length-stored machine.memory flight.stores h.sound.memory;
         rising = h.sound.rising;
       };
+      base = h.base;
       words = λ reg.
           let n : length machine.registers ≡ 32 = h.sound.registers in
           let r : index_of reg < 32 = index_within reg in

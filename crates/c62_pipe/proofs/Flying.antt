@@ -42,6 +42,7 @@ pub record Flying (block : List Placed) (opening : Machine) (cycle next upto : �
     (machine : Machine) : Type 0 where
   pub within : next ≤ length block
   pub sound : IsSound machine
+  pub base : machine.base ≡ opening.base
   pub words : (reg : Reg) → word_in machine reg ≡ word_before block opening (the_run block opening) cycle reg
   pub bytes : (a : ℕ) → byte_in machine a ≡ byte_before block opening (the_run block opening) cycle a
   pub pending : (a : ℕ)
@@ -72,6 +73,7 @@ pub start : (block : List Placed) (opening : Machine) (flight : Flight) → IsSo
 start block opening flight sound size none empty = record {
   within = omega arith;
   sound = sound;
+  base = refl;
   words = λ reg. sym (ap (λ o. value_or o (word_in opening reg))
       (nothing_before (index_of reg) (flat_map (register_landings (the_run block opening)) block)));
   bytes = λ a. sym (ap (λ o. value_or o (byte_in opening a))
@@ -103,8 +105,9 @@ pub does : (block : List Placed) (opening : Machine) (cycle next upto : ℕ) (fl
     → Flying block opening cycle next upto flight machine → In p block → p.cycle ≡ cycle
     → act_at p machine ≡ the_run block opening p
 does block opening cycle next upto flight machine p h i e =
-    act_same p.insn (word_in machine) (word_before block opening (the_run block opening) p.cycle) (byte_in machine)
-    (byte_before block opening (the_run block opening) p.cycle)
+    act_same p.insn machine.base opening.base (word_in machine)
+    (word_before block opening (the_run block opening) p.cycle) (byte_in machine)
+    (byte_before block opening (the_run block opening) p.cycle) h.base
     (λ reg r. h.words reg ∙ ap (λ c. word_before block opening (the_run block opening) c reg) (sym e))
     (λ a r. h.bytes a ∙ ap (λ c. byte_before block opening (the_run block opening) c a) (sym e))
     ∙ sym (the_run_runs block opening p (Contains_from_In p block i))
@@ -154,8 +157,8 @@ is_ready block opening cycle next upto flight machine p h i e =
     record {
       few = (let r : 8 * cycle + length flight.stores ≤ upto = h.few in omega arith);
       fits = fits cycle p.line (act_at p machine).writes flight.slots h.slots
-          (act_soon p.insn (word_in machine) (byte_in machine))
-          (λ t. few_due t cycle p.line p.insn (word_in machine) (byte_in machine))
+          (act_soon p.insn machine.base (word_in machine) (byte_in machine))
+          (λ t. few_due t cycle p.line p.insn machine.base (word_in machine) (byte_in machine))
           (λ t from soon. let r : 8 * t + length (due flight.slots t) ≤ upto + 32 = h.space t from soon in omega arith);
     }
 
@@ -188,6 +191,7 @@ issue_step block opening cycle next upto flight machine p ascends h l found e =
         rising = cond_both (is_fault (act_at p machine).access) _ machine.faults IsStrictlyIncreasing
             (λ _. joined_rises p.line machine.faults h.sound.rising) (λ _. h.sound.rising);
       };
+      base = h.base;
       words = h.words;
       bytes = h.bytes;
       pending = λ a.
@@ -206,7 +210,7 @@ issue_step block opening cycle next upto flight machine p ascends h l found e =
       slots = length-writes cycle p.line (act_at p machine).writes flight.slots ∙ h.slots;
       flying = λ t from below.
           due_writes cycle p.line t (act_at p machine).writes flight.slots h.slots from below
-          (act_soon p.insn (word_in machine) (byte_in machine))
+          (act_soon p.insn machine.base (word_in machine) (byte_in machine))
           ∙ ap (λ slot. slot ++ due_of t cycle p.line (act_at p machine).writes) (h.flying t from below)
           ∙ ap (λ (x : Act). due_in (the_run block opening) t (take next block) ++ due_of t cycle p.line x.writes) same
           ∙ ap (λ c. due_in (the_run block opening) t (take next block) ++ due_of t c p.line
@@ -217,11 +221,12 @@ issue_step block opening cycle next upto flight machine p ascends h l found e =
           let grown : due (with_writes cycle p.line (act_at p machine).writes flight.slots) t ≡ due flight.slots t ++
           due_of t cycle p.line (act_at p machine).writes
           = due_writes cycle p.line t (act_at p machine).writes flight.slots h.slots from below
-          (act_soon p.insn (word_in machine) (byte_in machine)) in
+          (act_soon p.insn machine.base (word_in machine) (byte_in machine)) in
           let size : length (due (with_writes cycle p.line (act_at p machine).writes flight.slots) t) ≡ length
           (due flight.slots t) + length (due_of t cycle p.line (act_at p machine).writes)
           = ap length grown ∙ length-append (due flight.slots t) (due_of t cycle p.line (act_at p machine).writes) in
           let one : length (due_of t cycle p.line (act_at p machine).writes) ≤ 1 = few_due t cycle p.line p.insn
+          machine.base
           (word_in machine) (byte_in machine) in
           let was : 8 * t + length (due flight.slots t) ≤ upto + 32 = h.space t from below in
           let after : upto ≤ listing_position p = h.ahead p inside in

@@ -69,6 +69,7 @@ finish block opening cycle flight machine exit room h e = record {
   leaves = record {
     state = record {
       sound = h.flying.sound;
+      base = h.flying.base;
       words = λ reg. h.flying.words reg
           ∙ ap (λ c. word_before block.placed opening (the_run block.placed opening) c reg) e;
       bytes = λ a l. h.flying.bytes a ∙ ap (λ c. byte_before block.placed opening (the_run block.placed opening) c a) e;
@@ -103,9 +104,9 @@ all_landed block opening t (p ∷ ps) late sub =
     let here : due_of t p.cycle p.line (the_run block opening p).writes ≡ []
     = ap (λ (x : Act). due_of t p.cycle p.line x.writes)
     (the_run_runs block opening p (Contains_from_In p block (sub p (inl refl))))
-    ∙ due_none t p.cycle p.line (act_of p.insn word byte).writes
+    ∙ due_none t p.cycle p.line (act_of p.insn opening.base word byte).writes
     (λ w k f. let d : w.0.1 ≤ greatest_delay (register_writes p.insn) = within_greatest (register_writes p.insn) w.0
-    (act_writes p.insn word byte w k) in omega arith) in
+    (act_writes p.insn opening.base word byte w k) in omega arith) in
     ap (λ slot. slot ++ due_in (the_run block opening) t ps) here
     ∙ all_landed block opening t ps (λ q k. late q (inr k)) (λ q k. sub q (inr k))
 

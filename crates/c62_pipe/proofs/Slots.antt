@@ -82,9 +82,9 @@ due_writes c line t (w ∷ ws) slots l a b s =
 
 -- ---- what an instruction adds
 
-pub act_soon : (insn : Insn) (word : Reg → ℕ) (byte : ℕ → ℕ) → AreSoon (act_of insn word byte).writes
-act_soon insn word byte w h = writes_delay insn w.0.0 w.0.1
-    (Contains_from_In w.0 (register_writes insn) (act_writes insn word byte w h))
+pub act_soon : (insn : Insn) (base : ℕ) (word : Reg → ℕ) (byte : ℕ → ℕ) → AreSoon (act_of insn base word byte).writes
+act_soon insn base word byte w h = writes_delay insn w.0.0 w.0.1
+    (Contains_from_In w.0 (register_writes insn) (act_writes insn base word byte w h))
 
 pub due_none : (t c line : ℕ) (ws : List ((Reg × ℕ) × ℕ)) → ((w : (Reg × ℕ) × ℕ) → In w ws → c + w.0.1 ≡ t → ⊥)
     → due_of t c line ws ≡ []
@@ -112,11 +112,11 @@ one_due t c line (k ∷ ks) (v ∷ vs) h =
     (λ e. one_due t c line ks vs h.1)
 
 -- an instruction has at most one write that lands at t
-pub few_due : (t c line : ℕ) (insn : Insn) (word : Reg → ℕ) (byte : ℕ → ℕ)
-    → length (due_of t c line (act_of insn word byte).writes) ≤ 1
-few_due t c line insn word byte =
+pub few_due : (t c line : ℕ) (insn : Insn) (base : ℕ) (word : Reg → ℕ) (byte : ℕ → ℕ)
+    → length (due_of t c line (act_of insn base word byte).writes) ≤ 1
+few_due t c line insn base word byte =
     let P : Act → Type 0 = λ a. length (due_of t c line a.writes) ≤ 1 in
-    cond_both (runs word insn) (act_on insn (operand_values word insn) byte) no_act P
+    cond_both (runs word insn) (act_on insn base (operand_values word insn) byte) no_act P
     (λ e. one_due t c line (register_writes insn) _ (rising_writes (op_of insn) (operands_of insn))) (λ e. omega arith)
 
 -- it fits where each slot of the five cycles holds at most 39

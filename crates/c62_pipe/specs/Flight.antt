@@ -71,7 +71,7 @@ stores_of (Some access) = stores_at access.address access.size access.value
 
 -- what an instruction does on this machine
 abbrev pub act_at : Placed → Machine → Act
-act_at p machine = act_of p.insn (word_in machine) (byte_in machine)
+act_at p machine = act_of p.insn machine.base (word_in machine) (byte_in machine)
 
 abbrev pub with_stores : List Store → Flight → Flight
 with_stores stores flight = record { slots = flight.slots; stores = stores }
@@ -82,7 +82,7 @@ issued cycle line act flight = record { slots = with_writes cycle line act.write
 
 -- what a load or a store does on this machine
 abbrev pub transfer_at : Placed → Transfer → Machine → Act
-transfer_at p transfer machine = act_by (op_of p.insn) (Transfers transfer) (byte_in machine)
+transfer_at p transfer machine = act_by (op_of p.insn) (Transfers transfer) machine.base (byte_in machine)
 
 -- there is room for the writes of what an instruction did in a cycle
 abbrev pub FitsWrites : ℕ → Placed → Act → Flight → Type 0
@@ -119,6 +119,7 @@ after_landings writes machine = record machine { registers = fold landed machine
 -- the machine at the end of a cycle: the stores are made, and what is due lands
 abbrev pub at_end : ℕ → Flight → Machine → Machine
 at_end cycle flight machine = record {
+  base = machine.base;
   registers = fold landed machine.registers (due flight.slots cycle);
   memory = fold stored machine.memory flight.stores;
   faults = machine.faults;

@@ -4,7 +4,7 @@ ghost use Rattle.std.specs.Prelude.{◌≡◌, not, ◌+◌, ◌<◌, ◌≤◌,
 ghost use Rattle.c62_insn.specs.Insn.{op_of};
 ghost use Rattle.c62_packet.specs.declared.limits.TheConstants.{MOST_CYCLES};
 ghost use Rattle.c62_serial.specs.State.{byte_in, line_capacity};
-ghost use Rattle.c62_serial.specs.Memory.{is_size, is_good, read};
+ghost use Rattle.c62_serial.specs.Memory.{is_size, is_good, read, placed_from};
 ghost use Rattle.c62_serial.specs.Faults.{with_fault_if};
 ghost use Rattle.c62_serial.specs.Effect.{loaded};
 ghost use Rattle.c62_serial.specs.Serial.{exit_after};
@@ -37,17 +37,17 @@ impl Model for Pipe {
     ghost invariant = { λ pipe. IsFlight (record { slots = pipe.ring; stores = pipe.stores.items }) };
 }
 
-/// What an access finds at its address, as a number with the lowest byte first. Where the access is
-/// misaligned or reaches past the end of memory that is nothing, and its line joins the faulted ones.
-fn find(line: u32, address: u32, size: u8, state: &mut State) -> Option<u32>
+/// What an access finds at its place, as a number with the lowest byte first. Where the access is
+/// misaligned or not within memory that is nothing, and its line joins the faulted ones.
+fn find(line: u32, place: u32, size: u8, state: &mut State) -> Option<u32>
     requires size { IsTrue (is_size size) }
     requires room { 0 < state.old.room }
-    ensures found { result ≡ read (byte_in state.old.machine) address size }
-    ensures machine { state.new.machine ≡ with_fault_if line (not (is_good address size)) state.old.machine }
+    ensures found { result ≡ read (byte_in state.old.machine) place size }
+    ensures machine { state.new.machine ≡ with_fault_if line (not (is_good place size)) state.old.machine }
     ensures room { state.old.room ≤ state.new.room + 1 }
     ensures capacity { line_capacity state.new ≡ line_capacity state.old }
 {
-    match state.load(address, size) {
+    match state.load_at(place, size) {
         Some(raw) => Some(raw),
         None => {
             state.fault(line);
@@ -73,21 +73,22 @@ impl Pipe {
         requires size { IsTrue (is_size access.size) }
         requires room { 0 < state.old.room }
         requires few { length self.old.stores < 8 }
-        ensures loaded { result ≡ loaded (byte_in state.old.machine) (op_of placed.now.insn) (Some access) }
-        ensures machine { state.new.machine ≡ with_fault_of placed.now (Some access) state.old.machine }
+        ensures loaded { result ≡ loaded (byte_in state.old.machine) (op_of placed.now.insn) (placed_from state.old.machine.base (Some access)) }
+        ensures machine { state.new.machine ≡ with_fault_of placed.now (placed_from state.old.machine.base (Some access)) state.old.machine }
         ensures room { state.old.room ≤ state.new.room + 1 }
         ensures capacity { line_capacity state.new ≡ line_capacity state.old }
-        ensures flight { self.new ≡ with_stores (self.old.stores ++ stores_of (Some access)) self.old }
+        ensures flight { self.new ≡ with_stores (self.old.stores ++ stores_of (placed_from state.old.machine.base (Some access))) self.old }
     {
         let Access {
             address,
             size,
             value,
         } = access;
-        let found = find(placed.line, address, size, state);
+        let place = state.place(address);
+        let found = find(placed.line, place, size, state);
         match (value, found) {
             (Some(value), _) => {
-                self.stores.push((address, size, value));
+                self.stores.push((place, size, value));
                 None
             }
             (None, Some(raw)) => Some(placed.insn.loaded(raw)),
@@ -103,7 +104,7 @@ impl Pipe {
         requires room { 0 < state.old.room }
         requires few { length self.old.stores < 8 }
         requires fits { FitsWrites cycle placed.now (transfer_at placed.now transfer state.old.machine) self.old }
-        ensures machine { state.new.machine ≡ with_fault_of placed.now (Some transfer.access) state.old.machine }
+        ensures machine { state.new.machine ≡ with_fault_of placed.now (placed_from state.old.machine.base (Some transfer.access)) state.old.machine }
         ensures room { state.old.room ≤ state.new.room + 1 }
         ensures capacity { line_capacity state.new ≡ line_capacity state.old }
         ensures flight { self.new ≡ with_transfer cycle placed.now transfer state.old.machine self.old }
@@ -162,8 +163,8 @@ impl Pipe {
         ensures flight { self.new ≡ with_stores [] self.old }
         ensures state { state.new ≡ record state.old { machine = after_stores self.old.stores state.old.machine } }
     {
-        for (address, size, value) in self.stores.as_slice() {
-            let _ = state.store(*address, *size, *value);
+        for (place, size, value) in self.stores.as_slice() {
+            let _ = state.store_at(*place, *size, *value);
         }
         self.stores.clear();
     }

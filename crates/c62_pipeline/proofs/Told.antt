@@ -14,14 +14,16 @@ use Rattle.c62_pipeline.specs.Checked.{IsChecked}
 use Rattle.c62_pipeline.specs.Laws.{WhatIsWrittenIsDone}
 
 pub checked_text : (trips : List (Name × ℕ)) (apart : List Reg) (blocks : List Serial) (read : RowsText)
-    (lines : List ℕ) (same : Bool) (text : List ℕ) → ReadsAs text read
-    → AreLoopsTold trips apart blocks (text_of read.rows) lines same → same ≡ true → IsChecked trips apart blocks text
-checked_text trips apart blocks read lines same text is told holds = record {
+    (lines : List ℕ) (same plain : Bool) (text : List ℕ) → ReadsAs text read
+    → AreLoopsTold trips apart blocks (text_of read.rows) lines same plain → plain ≡ true → same ≡ true
+    → IsChecked trips apart blocks text
+checked_text trips apart blocks read lines same plain text is told bare holds = record {
   packets = text_of read.rows;
   labels = names_of read;
   read = is.is_text;
   lines = lines;
-  told = subst (λ b. AreLoopsTold trips apart blocks (text_of read.rows) lines b) holds told;
+  told = subst (λ b. AreLoopsTold trips apart blocks (text_of read.rows) lines true b) bare
+      (subst (λ b. AreLoopsTold trips apart blocks (text_of read.rows) lines b plain) holds told);
 }
 
 pub written_done : (trips : List (Name × ℕ)) (apart : List Reg) (blocks : List Serial) (own : List Packed)
@@ -32,7 +34,7 @@ written_done trips apart blocks own written is =
         packets = told.packets;
         labels = told.labels;
         read = told.read;
-        done = loops_do_the_same trips apart blocks told.packets told.lines told.told;
+        done = loops_do_the_same trips apart blocks told.packets told.lines true told.told;
       })
       | inr kept ↦ inr kept
     ]

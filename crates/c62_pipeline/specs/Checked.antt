@@ -11,14 +11,14 @@ use Rattle.c62_check_loops.specs.Told.{AreLoopsTold}
 use Rattle.c62_pipeline.specs.Chosen.{IsChosen}
 use Rattle.c62_pipeline.specs.declared.written.Pipelining.{Pipelining}
 
--- The text is read as packets, and what is told of the program's blocks and these is that all is the same, where so many trips are
--- promised of the loops of these labels, and that accesses from two of these registers are apart.
+-- The text is read as packets, and what is told of the program's blocks and these is that all is the same, with no register named, where so
+-- many trips are promised of the loops of these labels, and that accesses from two of these registers are apart.
 pub record IsChecked (trips : List (Name × ℕ)) (apart : List Reg) (blocks : List Serial) (text : List ℕ) : Type 0 where
   pub packets : Text
   pub labels : List (Name × ℕ)
   pub read : IsText text packets labels
   pub lines : List ℕ
-  pub told : AreLoopsTold trips apart blocks packets lines true
+  pub told : AreLoopsTold trips apart blocks packets lines true true
 
 -- each block has its own packets, of which this is the listing, and each loop was given up
 pub record IsOwn (own : List ℕ) (written : Pipelining) : Type 0 where
@@ -29,7 +29,7 @@ pub record IsOwn (own : List ℕ) (written : Pipelining) : Type 0 where
 -- its loops is true.
 pub record IsWrittenOf (trips : List (Name × ℕ)) (apart : List Reg) (blocks : List Serial) (own : List ℕ) (written : Pipelining) : Type 0 where
   pub does : IsChecked trips apart blocks written.text.items ⊎ IsOwn own written
-  pub chosen : All (IsChosen apart blocks) written.loops.items
+  pub chosen : All (IsChosen trips apart blocks) written.loops.items
 
 abbrev pub IsWritten : List (Name × ℕ) → List Reg → List Serial → List Packed → Pipelining → Type 0
 IsWritten trips apart blocks own written = IsWrittenOf trips apart blocks (listing own) written

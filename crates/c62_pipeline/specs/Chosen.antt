@@ -1,5 +1,6 @@
 -- What is found for a block that is a loop (docs/SCHEDULING.md, "Loops of a program").
-use Rattle.std.specs.Prelude.{◌≡◌, ◌⊎◌, ℕ, ◌+◌, Bool, true, false, List, [], slice_get, Option, Some, None}
+use Rattle.std.specs.Prelude.{◌≡◌, ◌⊎◌, ℕ, ◌+◌, Bool, true, false, List, [], slice_get, Option, Some, None, IfSome}
+use Rattle.clap.specs.Words.{Text as Name}
 use Rattle.c62_op.specs.declared.register.Reg.{Reg}
 use Rattle.c62_read.specs.declared.block.SerialInsn.{SerialInsn}
 use Rattle.c62_read.specs.Block.{Serial}
@@ -11,6 +12,7 @@ use Rattle.c62_modulo.specs.declared.made.Shortness.{Shortness}
 use Rattle.c62_modulo.specs.Made.{IsMade, IsShown}
 use Rattle.c62_check_loop.specs.Region.{counter_of}
 use Rattle.c62_check_loops.specs.Promised.{IsPromiseOf}
+use Rattle.c62_check_loops.specs.Granted.{is_granted}
 use Rattle.c62_pipeline.specs.declared.chosen.Kept.{Kept}
 use Rattle.c62_pipeline.specs.declared.chosen.Kept.TheVariants.{Pipelined, NoCounter, NoTrips, MayMeet, NotShorter, NotChecked}
 use Rattle.c62_pipeline.specs.declared.chosen.Choice.{Choice}
@@ -32,8 +34,8 @@ pub record IsPipelined (promise : Promise) (region : Region) (cycles stages : �
 -- no packets are told, and where it is said to lie at two accesses, these may meet
 abbrev pub IsReason : Promise → List SerialInsn → Kept → Type 0
 IsReason promise body (Pipelined cycles stages known) = ⊥
-IsReason promise body NoCounter = Unit {0}
-IsReason promise body NoTrips = Unit {0}
+IsReason promise body NoCounter = ⊥
+IsReason promise body NoTrips = ⊥
 IsReason promise body (MayMeet first second) = meeting_of promise body ≡ Some (record { first = first; second = second })
 IsReason promise body NotShorter = Unit {0}
 IsReason promise body NotChecked = Unit {0}
@@ -63,17 +65,28 @@ pub record IsUncounted (choice : Choice) : Type 0 where
   pub none : choice.made ≡ None
   pub told : choice.kept ≡ NoCounter
 
--- so it is of a loop under a counter
-pub record IsCounted (apart : List Reg) (blocks : List Serial) (choice : Choice) : Type 0 where
+-- so has a loop of whose label not one trip is promised
+pub record IsUnpromised (trips : List (Name × ℕ)) (label : Option Name) (choice : Choice) : Type 0 where
+  pub none : choice.made ≡ None
+  pub told : choice.kept ≡ NoTrips
+  pub why : IfSome label (λ label. is_granted trips label 1 ≡ false)
+
+-- what is found for a loop under a counter, of this label
+abbrev pub IsCountedAs : List (Name × ℕ) → List Reg → Option Name → Region → Choice → Type 0
+IsCountedAs trips apart label region choice =
+    (choice.number ≡ region.number) × (IsUnpromised trips label choice ⊎ IsFoundOf apart region choice)
+
+-- so it is of such a block
+pub record IsCounted (trips : List (Name × ℕ)) (apart : List Reg) (blocks : List Serial) (choice : Choice) : Type 0 where
   pub block : Serial
   pub at : slice_get blocks choice.number ≡ Some block
   pub counter : Reg
   pub counts : counter_of blocks choice.number ≡ Some counter
-  pub found : IsFoundOf apart (loop_alone choice.number block counter) choice
+  pub found : IsCountedAs trips apart block.label (loop_alone choice.number block counter) choice
 
 -- what is found for a block of these that is a loop
-abbrev pub IsChosen : List Reg → List Serial → Choice → Type 0
-IsChosen apart blocks choice = IsUncounted choice ⊎ IsCounted apart blocks choice
+abbrev pub IsChosen : List (Name × ℕ) → List Reg → List Serial → Choice → Type 0
+IsChosen trips apart blocks choice = IsUncounted choice ⊎ IsCounted trips apart blocks choice
 
 -- ---- what is told
 

@@ -1,5 +1,5 @@
 -- What follows of packets that are written with pipelined loops (docs/SCHEDULING.md, "Loops of a program").
-use Rattle.std.specs.Prelude.{◌⊎◌, ℕ, List}
+use Rattle.std.specs.Prelude.{◌⊎◌, ℕ, List, None}
 use Rattle.clap.specs.Words.{Text as Name}
 use Rattle.c62_op.specs.declared.register.Reg.{Reg}
 use Rattle.c62_read.specs.Block.{Serial}
@@ -16,7 +16,7 @@ pub record DoesAll (trips : List (Name × ℕ)) (apart : List Reg) (blocks : Lis
   pub packets : Text
   pub labels : List (Name × ℕ)
   pub read : IsText text packets labels
-  pub done : AreDone trips apart blocks packets
+  pub done : AreDone trips apart blocks packets None
 
 -- where it isn't each block's own packets, what is written does all that the program does
 abbrev pub WhatIsWrittenIsDone : List (Name × ℕ) → List Reg → List Serial → List Packed → Pipelining → Type 0

@@ -12,7 +12,7 @@ use c62_read::Program;
 use c62_rows::{RowsFault, RowsText, read_rows};
 use std::alloc::{AllocError, Global};
 
-/// Whether packets that were read do what the program does, where so much is promised.
+/// Whether packets that were read do what the program does, where so much is promised: they may leave no register otherwise.
 #[tactic(auto, using(crate::proofs::Told::checked_text))]
 fn are_same(
     alloc: Global,
@@ -24,7 +24,11 @@ fn are_same(
         (IsChecked (map trips_of promises.now.trips.items) promises.now.apart.items program.now text)) }
 {
     let checked = check_loops(alloc, program, read, promises)?;
-    Ok(checked.same)
+    if checked.plain {
+        Ok(checked.same)
+    } else {
+        Ok(false)
+    }
 }
 
 /// Whether a text is one of packets that do what the program does, where so much is promised.

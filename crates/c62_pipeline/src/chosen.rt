@@ -1,16 +1,17 @@
 //! Which packets stand for which block.
 
-ghost use Rattle.std.specs.Prelude.{◌≡◌, ℕ, IfOk, IfSome, Some, None, slice_get};
+ghost use Rattle.std.specs.Prelude.{◌≡◌, ℕ, IfOk, IfSome, Some, None, map, slice_get};
 ghost use Rattle.c62_loop.specs.Loop.{Region as Counted};
 ghost use Rattle.c62_loop_match.specs.declared.promise.Promise.{Promise as OfAccesses};
 ghost use Rattle.c62_loop_match.specs.Parts.{region_of as region_read};
 ghost use Rattle.c62_loop_match.specs.Promise.{promises};
 ghost use Rattle.c62_modulo.specs.Made.{IsMade};
-ghost use Rattle.c62_pipeline.specs.Chosen.{IsChosen, IsFound, IsFoundOf, IsReason, loop_alone, told_kept};
+ghost use Rattle.c62_pipeline.specs.Chosen.{IsChosen, IsCountedAs, IsFound, IsReason, loop_alone, told_kept};
+ghost use Rattle.c62_command.specs.Promises.{trips_of};
 
 use crate::meeting::{Meeting, all_apart, meeting_in};
 use c62_check_loop::counter_of;
-use c62_check_loops::promise_of;
+use c62_check_loops::{is_granted, promise_of};
 use c62_command::{Promises, Trips};
 use c62_insn::{Operands, Reg};
 use c62_line::Label;
@@ -108,12 +109,12 @@ impl Choice {
     }
 }
 
-/// The most trips that are promised of the loop of a label.
-fn trips_of(trips: &[Trips], label: &Label) -> Option<u32> {
-    let mut most = None;
+/// The most trips that are promised of the loop of a label, or 0.
+fn most_trips(trips: &[Trips], label: &Label) -> u32 {
+    let mut most = 0;
     for each in trips {
         if each.label.as_slice() == label.as_bytes() {
-            most = most.max(Some(each.least));
+            most = most.max(each.least);
         }
     }
     most
@@ -179,15 +180,15 @@ fn counted(
     longest: u16,
     promises: &Promises,
 ) -> Result<Choice, AllocError>
-    ensures { IfOk result (IsFoundOf promises.now.apart.items (region_read region.now)) }
+    ensures { IfOk result (IsCountedAs (map trips_of promises.now.trips.items) promises.now.apart.items (Some label.now) (region_read region.now)) }
 {
     let promise = promise_of(&promises.apart);
-    let Some(trips) = trips_of(&promises.trips, label) else {
+    if !is_granted(&promises.trips, label.as_bytes(), 1) {
         return Ok(Choice::without(region.number, Kept::NoTrips));
-    };
+    }
     let terms = Terms {
         promise,
-        trips,
+        trips: most_trips(&promises.trips, label),
         longest: longest.saturating_sub(1),
     };
     found(alloc, region, terms)
@@ -203,7 +204,7 @@ fn loop_choice(
     promises: &Promises,
 ) -> Result<Choice, AllocError>
     requires { slice_get blocks.now number ≡ Some block.now }
-    ensures { IfOk result (IsChosen promises.now.apart.items blocks.now) }
+    ensures { IfOk result (IsChosen (map trips_of promises.now.trips.items) promises.now.apart.items blocks.now) }
 {
     let (Some(counter), Some(label)) = (counter_of(blocks, usize::from(number)), block.label())
     else {
@@ -229,7 +230,7 @@ pub(crate) fn choice_of(
     own: &PacketBlock,
     promises: &Promises,
 ) -> Result<Option<Choice>, AllocError>
-    ensures { IfOk result (λ choice. IfSome choice (IsChosen promises.now.apart.items blocks.now)) }
+    ensures { IfOk result (λ choice. IfSome choice (IsChosen (map trips_of promises.now.trips.items) promises.now.apart.items blocks.now)) }
 {
     match blocks.get(usize::from(number)) {
         Some(block) if is_loop(block.insns(), number) => Ok(Some(loop_choice(

@@ -36,8 +36,8 @@ fn push_choice(
     own: &PacketBlock,
     promises: &Promises,
 ) -> Result<(), AllocError>
-    ensures { All (IsChosen promises.now.apart.items blocks.now) choices.old.items
-        → OnOk result (All (IsChosen promises.now.apart.items blocks.now) choices.new.items) }
+    ensures { All (IsChosen (map trips_of promises.now.trips.items) promises.now.apart.items blocks.now) choices.old.items
+        → OnOk result (All (IsChosen (map trips_of promises.now.trips.items) promises.now.apart.items blocks.now) choices.new.items) }
 {
     match choice_of(alloc, blocks, number, own, promises)? {
         Some(choice) => {
@@ -55,7 +55,7 @@ fn choices_of(
     packets: &Packets,
     promises: &Promises,
 ) -> Result<Vec<Choice>, AllocError>
-    ensures { IfOk result (λ choices. All (IsChosen promises.now.apart.items program.now) choices.items) }
+    ensures { IfOk result (λ choices. All (IsChosen (map trips_of promises.now.trips.items) promises.now.apart.items program.now) choices.items) }
 {
     let blocks = program.blocks();
     let mut choices = Vec::new(alloc);
@@ -95,7 +95,7 @@ fn written_of(
     choices: Vec<Choice>,
     promises: &Promises,
 ) -> Result<Pipelining, AllocError>
-    requires { All (IsChosen promises.now.apart.items program.now) choices.items }
+    requires { All (IsChosen (map trips_of promises.now.trips.items) promises.now.apart.items program.now) choices.items }
     ensures { IfOk result (IsWrittenOf (map trips_of promises.now.trips.items) promises.now.apart.items program.now listing.items) }
 {
     for given_up in 0..choices.len() {

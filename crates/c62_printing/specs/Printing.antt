@@ -9,7 +9,7 @@ use Rattle.c62_report.specs.Print.{print_lines}
 
 -- the lines that a setting asks for
 abbrev pub printed : Machine → Given → List ℕ
-printed machine (given.Print print) = print_lines machine (bytes_in print.size) print.signed print.count print.address
+printed machine (given.Print print) = print_lines machine (bytes_in print.size) print.signed print.count print.place
 printed machine _ = []
 
 -- those of all settings, in their order

@@ -8,19 +8,19 @@ use c62_command::{Dump, Setting};
 use c62_serial::State;
 use std::alloc::AllocError;
 
-/// The byte so far behind an address.
-fn byte_at(state: &State, address: u32, offset: u32) -> u8
-    ensures { result ≡ byte_at state.now.machine (address + offset) }
+/// The byte so far behind a place.
+fn byte_at(state: &State, place: u32, offset: u32) -> u8
+    ensures { result ≡ byte_at state.now.machine (place + offset) }
 {
-    state.byte(((u64::from(address) + u64::from(offset)) % 65_536) as u16)
+    state.byte(((u64::from(place) + u64::from(offset)) % 65_536) as u16)
 }
 
-/// Adds so many bytes from an address on.
+/// Adds so many bytes from a place on.
 fn push_bytes(out: &mut Vec<u8>, state: &State, dump: Dump) -> Result<(), AllocError>
-    ensures { OnOk result (out.new.items ≡ out.old.items ++ bytes_at state.now.machine dump.address dump.count) }
+    ensures { OnOk result (out.new.items ≡ out.old.items ++ bytes_at state.now.machine dump.place dump.count) }
 {
     for offset in 0..dump.count {
-        out.push(byte_at(state, dump.address, offset))?;
+        out.push(byte_at(state, dump.place, offset))?;
     }
     Ok(())
 }
@@ -35,7 +35,8 @@ fn push_dumped(out: &mut Vec<u8>, state: &State, setting: Setting) -> Result<(),
         | Setting::Byte(_, _)
         | Setting::Half(_, _)
         | Setting::Word(_, _)
-        | Setting::Print(_) => Ok(()),
+        | Setting::Print(_)
+        | Setting::Base(_) => Ok(()),
     }
 }
 

@@ -18,7 +18,7 @@ fn push_printed(out: &mut Vec<u8>, state: &State, setting: Setting) -> Result<()
         Setting::Print(print) => push_print(
             out,
             state,
-            print.address,
+            print.place,
             print.count,
             print.size.bytes(),
             print.signed,
@@ -27,7 +27,8 @@ fn push_printed(out: &mut Vec<u8>, state: &State, setting: Setting) -> Result<()
         | Setting::Byte(_, _)
         | Setting::Half(_, _)
         | Setting::Word(_, _)
-        | Setting::Dump(_) => Ok(()),
+        | Setting::Dump(_)
+        | Setting::Base(_) => Ok(()),
     }
 }
 

@@ -7,7 +7,6 @@ use Rattle.c62_answer.specs.Message.{told_of}
 use Rattle.c62_answer.specs.Run.{IsRun, Streams, streams}
 use Rattle.c62_answer.proofs.WholeRuns.{told_tells}
 use Rattle.clap.specs.declared.error.Error.{Error}
-use Rattle.c62_command.specs.Blamed.{setting_at}
 use Rattle.c62_command.specs.CommandLine.{Ask, IsRefusal, asked}
 use Rattle.c62_command.specs.declared.command.CommandError.TheVariants as refused
 use Rattle.c62_command.specs.declared.promise.BadPromise.{BadPromise}
@@ -17,11 +16,10 @@ use Rattle.c62_files.specs.Call.{From}
 use Rattle.c62_teach.specs.declared.words.Linting.{Linting}
 use Rattle.c62_teach.specs.Words.{is_explained, is_lint, linting_of, plain_words}
 use Rattle.c62_teach.specs.Linted.{IsLinted}
-use Rattle.c62_teach.specs.Faulted.{TellsFaults}
 use Rattle.c62_program.specs.Program.{IsGiven, IsRefusedFor, Lint, Lints, OnBytes, OnNothing, Plain, Refused}
 use Rattle.c62_program.specs.Program.{WithMore, is_told, RunsFrom, RunsLint, RunsTold, RunsWords}
-use Rattle.c62_program.specs.Teaching.{IsLintRun, RunsMore, TeachesWanted, behind_text, behind_words, listing_name}
-use Rattle.c62_program.specs.Teaching.{text_name}
+use Rattle.c62_program.specs.Teaching.{AreTold, IsLintRun, RunsMore, behind_text, behind_words, listing_name}
+use Rattle.c62_program.specs.Teaching.{status_with, text_name}
 use Rattle.c62_program.specs.declared.page.TheConstants.{LINT}
 
 -- ---- more is told
@@ -56,7 +54,7 @@ lint_found holds words source old new status linting bytes lines faulty name is 
 
 pub refused_setting : (wanted : Bool) (words : List Text) (number : ℕ) (more : List ℕ)
     → IsRefusal (refused.Setting number) words
-    → more ≡ (if wanted then setting_taught (setting_at words number) else []) → IsRefusedFor wanted words more
+    → more ≡ (if wanted then setting_taught words number else []) → IsRefusedFor wanted words more
 refused_setting wanted words number more is says = record
     { error = refused.Setting number; known = λ same. cc; refused = is; taught = says }
 
@@ -85,19 +83,19 @@ nothing_told holds words plain source old new explained more status wanted is re
     OnNothing more (rw (← wanted, ← is) refused) (rw (← is) run)
 
 pub bytes_told : (holds : Holding) (words plain : List Text) (source : From) (old new : Streams) (explained : Bool)
-    (bytes more faulted : List ℕ) (left : Option (List ℕ)) (status : ℕ) (ask : Ask) (name listing : Text)
+    (bytes refused apart faulted : List ℕ) (meets : Bool) (left : Option (List ℕ)) (status : ℕ) (ask : Ask)
+    (name listing : Text)
     → explained ≡ is_explained words → plain ≡ plain_words words → name ≡ text_name source
     → listing ≡ listing_name source → asked plain ≡ Some ask → IsGiven holds old.input source bytes
-    → TeachesWanted explained ask name listing bytes more → TellsFaults ask bytes faulted
-    → RunsMore plain (behind_text more faulted) (streams (Some bytes) old.output old.errors)
+    → AreTold explained ask name listing bytes refused apart faulted meets
+    → RunsMore plain (behind_text refused apart faulted) (streams (Some bytes) old.output old.errors)
     (streams left new.output new.errors) status
-    → RunsTold holds words source old new status
-bytes_told holds words plain source old new explained bytes more faulted left status ask name listing wanted is named
-    listed asks given teaches faults run =
-    OnBytes bytes left given more faulted
-    (rw (← wanted, ← is, asks) (rw (named, listed) at teaches))
-    (rw (← is, asks) faults)
-    (rw (← is) run)
+    → RunsTold holds words source old new (status_with meets status)
+bytes_told holds words plain source old new explained bytes refused apart faulted meets left status ask name listing
+    wanted is named listed asks given told run =
+    OnBytes bytes left given refused apart faulted meets status
+    (rw (← wanted, ← is, asks) (rw (named, listed) at told))
+    (rw (← is) run) refl
 
 -- ---- words
 

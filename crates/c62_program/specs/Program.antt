@@ -7,7 +7,6 @@ use Rattle.clap.specs.Words.{Text}
 use Rattle.c62_answer.specs.Message.{Tells}
 use Rattle.c62_answer.specs.Run.{Streams, IsRun, streams}
 use Rattle.c62_answer.specs.declared.parting.TheConstants.{MOST_BYTES}
-use Rattle.c62_command.specs.Blamed.{setting_at}
 use Rattle.c62_command.specs.CommandLine.{IsRefusal, ask_of, asked}
 use Rattle.c62_command.specs.declared.command.CommandError.{CommandError}
 use Rattle.c62_command.specs.declared.command.CommandError.TheVariants.{Memory, Setting}
@@ -19,11 +18,11 @@ use Rattle.c62_files.specs.Writing.{AreBegun, AreWritten, IsReplaced}
 use Rattle.c62_files.specs.Call.{From, IsCall, IsMistake, Standard, File, Parts, is_standard, text_source}
 use Rattle.c62_files.specs.declared.call.Call.{Call}
 use Rattle.c62_teach.specs.declared.words.Linting.{Linting}
-use Rattle.c62_teach.specs.Words.{is_explained, is_lint, is_strict, linting_of, plain_words}
+use Rattle.c62_teach.specs.Words.{is_explained, is_lint, is_strict, is_watched, linting_of, plain_words}
 use Rattle.c62_teach.specs.Linted.{IsLinted}
 use Rattle.c62_teach.specs.Setting.{setting_taught}
 use Rattle.c62_program.specs.Joined.{IsJoined}
-use Rattle.c62_program.specs.Teaching.{Explains, Faults, IsLintRun, IsTopicRun, RunsMore, behind_text, behind_words, is_topic, name_asked, text_name}
+use Rattle.c62_program.specs.Teaching.{AreToldOf, IsLintRun, IsTopicRun, RunsMore, behind_text, behind_words, is_topic, name_asked, status_with, text_name}
 use Rattle.c62_program.specs.Written.{IsWritten}
 use Rattle.c62_program.specs.declared.page.TheConstants.{LINT}
 use Rattle.c62_program.specs.declared.teaching.Asked.{Asked}
@@ -84,7 +83,7 @@ pub data RunsLint (holds : Holding) (words : List Text) (source : From) (old new
 
 -- what explains why words ask for nothing: of a setting that is none the reason, and of promises and other words nothing
 abbrev pub refusal_taught : List Text → CommandError → List ℕ
-refusal_taught words (Setting k) = setting_taught (setting_at words k)
+refusal_taught words (Setting k) = setting_taught words k
 refusal_taught words error = []
 
 -- the words ask for nothing, and this explains why, where that is wanted
@@ -101,19 +100,20 @@ IsAsked wanted words (Unknown more) = IsRefusedFor wanted words more.items
 
 -- more is told than by the run itself
 abbrev pub is_told : List Text → Bool
-is_told words = is_explained words || is_strict words
+is_told words = is_explained words || is_strict words || is_watched words
 
--- A run of words with `--explain`, or with `--strict` where they run serial text: what is promised of a run without `--explain` is so of it.
--- Behind what that tells of a text or of words that are refused stands with `--explain` what explains why, and behind a strict run in which
--- accesses fault stands each of them.
+-- A run of words with `--explain`, `--strict` or `--apart`: what is promised of a run without `--explain` is so of it. Behind what that tells of
+-- a text or of words that are refused stands with `--explain` what explains why, behind a serial run where accesses meet that `--apart` names,
+-- and behind a strict run in which accesses fault stands each of them. The status is that run's, but where accesses meet.
 pub data RunsTold (holds : Holding) (words : List Text) (source : From) (old new : Streams) (status : ℕ) : Type 0 where
   OnNothing : (more : List ℕ) → IsRefusedFor (is_explained words) (plain_words words) more
       → RunsMore (plain_words words) (behind_words more) old new status → RunsTold holds words source old new status
   OnBytes : (bytes : List ℕ) (left : Option (List ℕ)) → IsGiven holds old.input source bytes
-      → (refused faulted : List ℕ) → Explains (is_explained words) (plain_words words) source bytes refused
-      → Faults (plain_words words) bytes faulted
-      → RunsMore (plain_words words) (behind_text refused faulted) (streams (Some bytes) old.output old.errors)
-      (streams left new.output new.errors) status
+      → (refused apart faulted : List ℕ) (meets : Bool) (plain : ℕ)
+      → AreToldOf (is_explained words) (plain_words words) source bytes refused apart faulted meets
+      → RunsMore (plain_words words) (behind_text refused apart faulted) (streams (Some bytes) old.output old.errors)
+      (streams left new.output new.errors) plain
+      → status ≡ status_with meets plain
       → RunsTold holds words source old new status
 
 -- What words do on what their source gives: they ask for `lint`, or for a command, of which more is told or not.

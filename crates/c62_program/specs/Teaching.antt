@@ -1,5 +1,6 @@
--- What is told by `lint`, and behind `--explain` and `--strict` (docs/FAULTS.md; docs/REPORT.md, "Strict runs").
-use Rattle.std.specs.Prelude.{◌≡◌, ℕ, ◌==◌, Bool, true, false, List, [], ◌∷◌, ◌++◌, codes, Option, Some, None, if◌then◌else◌}
+-- What is told by `lint`, and behind `--explain`, `--strict` and `--apart` (docs/FAULTS.md; docs/REPORT.md, "Strict runs"; docs/CHECK.md,
+-- "A run that is looked at").
+use Rattle.std.specs.Prelude.{◌≡◌, ℕ, ◌==◌, ◌&&◌, ◌||◌, Bool, true, false, List, [], ◌∷◌, ◌++◌, codes, Option, Some, None, if◌then◌else◌}
 use Rattle.std.specs.Str.{bytes_eq}
 use Rattle.std.specs.Io.KnownBytes.{Keeps}
 use Rattle.std.specs.Option.{IsSomeAnd}
@@ -9,6 +10,7 @@ use Rattle.c62_answer.specs.Run.{IsRun, Streams, streams}
 use Rattle.c62_command.specs.CommandLine.{Ask, asked}
 use Rattle.c62_files.specs.Call.{From, Standard, File, Parts}
 use Rattle.c62_explain.specs.Topic.{page_in}
+use Rattle.c62_teach.specs.Apart.{TellsApart}
 use Rattle.c62_teach.specs.Faulted.{TellsFaults}
 use Rattle.c62_teach.specs.Taught.{Teaches}
 use Rattle.c62_program.specs.Written.{IsWritten}
@@ -41,9 +43,19 @@ IsLintRun lines faulty old new errors told status = IsWritten lines (status_by f
 abbrev pub behind_words : (blamed : List ℕ) → (status : ℕ) → List ℕ
 behind_words blamed status = if status == 2 then blamed else []
 
--- behind a text that is refused: what explains its fault; behind a run in which accesses fault: each of them
-abbrev pub behind_text : (refused faulted : List ℕ) → (status : ℕ) → List ℕ
-behind_text refused faulted status = if status == 1 then refused else (if status == 7 then faulted else [])
+-- a run came to its end, or to its limit
+abbrev pub has_run : (status : ℕ) → Bool
+has_run status = status == 0 || status == 6
+
+-- behind a text that is refused: what explains its fault; behind a run in which accesses fault: that they do; and behind another: where
+-- accesses meet that are to be apart
+abbrev pub behind_text : (refused apart faulted : List ℕ) → (status : ℕ) → List ℕ
+behind_text refused apart faulted status =
+    if status == 1 then refused else (if status == 7 then faulted else (if has_run status then apart else []))
+
+-- where accesses meet that are to be apart, and else all is well, the status says so
+abbrev pub status_with : (meets : Bool) → (status : ℕ) → ℕ
+status_with meets status = if meets && status == 0 then 5 else status
 
 -- words are run, and behind what that tells stands more, by the status
 pub record RunsMore (words : List Text) (more : ℕ → List ℕ) (old new : Streams) (status : ℕ) : Type 0 where
@@ -57,14 +69,19 @@ abbrev pub TeachesWanted : (wanted : Bool) → Ask → (name listing text more :
 TeachesWanted true ask name listing text more = Teaches ask name listing text more
 TeachesWanted false ask name listing text more = more ≡ []
 
--- so it is of what a source gives, for what the words ask of it
-abbrev pub Explains : (wanted : Bool) → List Text → From → (bytes more : List ℕ) → Type 0
-Explains wanted words source bytes more =
-    IsSomeAnd (asked words) (λ ask. TeachesWanted wanted ask (text_name source) (listing_name source) bytes more)
+-- what is told of a text: what explains its fault, where accesses meet that are to be apart, and which fault in a strict run
+pub record AreTold (wanted : Bool) (ask : Ask) (name listing text : List ℕ) (refused apart faulted : List ℕ) (meets : Bool) : Type 0 where
+  pub explains : TeachesWanted wanted ask name listing text refused
+  pub watches : TellsApart ask text apart meets
+  -- the accesses that fault
+  pub faults : List ℕ
+  pub which : TellsFaults ask text faults
+  pub both : faulted ≡ apart ++ faults
 
--- these are the accesses that fault in a strict run of it, where the words ask for one
-abbrev pub Faults : List Text → (bytes more : List ℕ) → Type 0
-Faults words bytes more = IsSomeAnd (asked words) (λ ask. TellsFaults ask bytes more)
+-- so it is of what a source gives, for what the words ask of it
+abbrev pub AreToldOf : (wanted : Bool) → List Text → From → (bytes : List ℕ) → (refused apart faulted : List ℕ) → (meets : Bool) → Type 0
+AreToldOf wanted words source bytes refused apart faulted meets =
+    IsSomeAnd (asked words) (λ ask. AreTold wanted ask (text_name source) (listing_name source) bytes refused apart faulted meets)
 
 -- ---- names
 

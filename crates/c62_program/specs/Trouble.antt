@@ -119,7 +119,8 @@ abbrev pub wanted_text : Text → List ℕ
 wanted_text option =
     if bytes_eq option (codes "--print") then codes " wants ADDRESS+LENGTH behind it\n"
     else (if bytes_eq option (codes "--dump") then codes " wants ADDRESS+LENGTH=NAME behind it\n"
-    else codes " wants the name of a file behind it\n")
+    else (if bytes_eq option (codes "--base") then codes " wants ADDRESS behind it\n"
+    else codes " wants the name of a file behind it\n"))
 
 abbrev pub call_message : CallError → List ℕ
 call_message (mistake.NoName option) = codes "error: " ++ option.now ++ wanted_text option.now

@@ -34,7 +34,8 @@ Status, and what standard error says:
   2  the words are refused, by a text that says why, or `setting 2: bad`, or `load 2: past the end`
   3  no memory: `memory`
   4  a stream failed: `input` or `output`; or a file: `cannot read NAME: REASON`, `cannot write NAME: REASON`
-  5  checked, and not each block is the same: the output tells, and nothing is said
+  5  checked, and not each block is the same: the output tells, and nothing is said; or with
+     serial --apart, accesses met: lines behind the report tell where
   6  with --strict, a run ended by its limit; 7, an access faulted: the report tells
 docs/SERIAL_TEXT.md, docs/LISTING.md, docs/ADOPT.md, docs/EXEC.md and docs/CHECK.md tell what each fault is.
 ";

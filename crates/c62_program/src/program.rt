@@ -21,7 +21,7 @@ use crate::written::status_behind;
 use c62_answer::{InputError, MOST_BYTES, read_text, run_tool};
 use c62_command::{CommandError, command_of};
 use c62_files::{Call, Folder, Source, call_of, expanded};
-use c62_teach::{is_explained, is_lint, is_strict};
+use c62_teach::{is_explained, is_lint, is_strict, is_watched};
 use std::alloc::{AllocError, Global};
 use std::convert::AsStr;
 use std::io::{Read, Write};
@@ -153,7 +153,7 @@ pub(crate) fn run_words<
     if is_lint(words) {
         return Ok(run_lint(rt, folder, words, source, input, output, errors)?);
     }
-    if is_explained(words) || is_strict(words) {
+    if is_explained(words) || is_strict(words) || is_watched(words) {
         return Ok(run_told(rt, folder, words, source, input, output, errors)?);
     }
     Ok(run_from(rt, folder, words, source, input, output, errors)?)

@@ -4,12 +4,11 @@ ghost use Rattle.std.specs.Prelude.{◌≡◌, ℕ, List, [], Option, Some, IfOk
 ghost use Rattle.std.specs.Io.KnownBytes.{Keeps};
 ghost use Rattle.c62_answer.specs.Run.{streams};
 ghost use Rattle.c62_files.specs.Call.{text_source};
-ghost use Rattle.c62_command.specs.Blamed.{setting_at};
 ghost use Rattle.c62_command.specs.CommandLine.{ask_of};
 ghost use Rattle.c62_teach.specs.Setting.{setting_taught};
 ghost use Rattle.c62_program.specs.Program.{IsAsked, RunsLint, RunsTold};
 ghost use Rattle.c62_program.specs.Trouble.{IsTroubleWithSource};
-ghost use Rattle.c62_program.specs.Teaching.{IsLintRun, RunsMore, TeachesWanted, behind_text, behind_words, listing_name, status_by, text_name};
+ghost use Rattle.c62_program.specs.Teaching.{AreTold, IsLintRun, RunsMore, TeachesWanted, behind_text, behind_words, listing_name, status_by, status_with, text_name};
 
 use crate::page::LINT;
 use crate::program::given;
@@ -19,8 +18,8 @@ use c62_answer::{run_tool, write_whole};
 use c62_command::{CommandError, Request, command_of};
 use c62_files::{Folder, Source};
 use c62_teach::{
-    Linted, Names, faults_told, is_explained, lint_text, linting_of, plain_words, setting_taught,
-    taught,
+    Linted, Names, Watched, apart_told, faults_told, is_explained, lint_text, linting_of,
+    plain_words, setting_taught, taught,
 };
 use std::alloc::{AllocError, Global};
 use std::io::{Read, Write};
@@ -108,7 +107,7 @@ fn setting_told(
     words: &[&str],
     number: usize,
 ) -> Result<Vec<u8>, AllocError>
-    ensures { IfOk result (λ more. more.items ≡ (if wanted then setting_taught (setting_at (map (λ word. word.now) words.now) number) else [])) }
+    ensures { IfOk result (λ more. more.items ≡ (if wanted then setting_taught (map (λ word. word.now) words.now) number else [])) }
 {
     if wanted {
         setting_taught(alloc, words, number)
@@ -161,22 +160,38 @@ fn run_nothing<H: AllocGlobal + Threads + Wait + Sync, R: Read, W: Write, E: Wri
     status
 }
 
-/// What is told of a text: why it is refused, and which accesses fault where it is run.
+/// What is told of a text.
 #[derive(Drop)]
 struct Told {
+    /// Why it is refused.
     refused: Vec<u8>,
+    /// Where accesses meet that are to be apart.
+    apart: Watched,
+    /// The same, and behind it which accesses fault.
     faulted: Vec<u8>,
 }
 
 impl Told {
     /// What is told behind a run with this status.
     fn behind(&self, status: u8) -> &[u8]
-        ensures { result.now ≡ behind_text self.now.refused.items self.now.faulted.items status }
+        ensures { result.now ≡ behind_text self.now.refused.items self.now.apart.lines.items self.now.faulted.items status }
     {
         match status {
+            0 | 6 => &self.apart.lines,
             1 => &self.refused,
             7 => &self.faulted,
             _ => &[],
+        }
+    }
+
+    /// The status of a run that would have this one.
+    fn status(&self, status: u8) -> u8
+        ensures { result ≡ status_with self.now.apart.meets status }
+    {
+        if self.apart.meets && status == 0 {
+            5
+        } else {
+            status
         }
     }
 }
@@ -198,7 +213,29 @@ fn refusal_told(
     }
 }
 
-/// Runs a command on these bytes, and tells more of their fault where it refuses them, or of the accesses that fault in a strict run.
+/// What is told of a text, for what is asked of it.
+fn told_of(
+    alloc: Global,
+    explained: bool,
+    request: &Request,
+    names: Names<'_>,
+    text: &[u8],
+) -> Result<Told, AllocError>
+    ensures { IfOk result (λ told. AreTold explained (ask_of request.now) names.entry.text.now names.entry.listing.now text.now
+        told.refused.items told.apart.lines.items told.faulted.items told.apart.meets) }
+{
+    let refused = refusal_told(alloc, explained, request, names, text)?;
+    let apart = apart_told(alloc, request, text)?;
+    let mut faulted = Vec::from_slice(alloc, &apart.lines)?;
+    faulted.extend_from_slice(&faults_told(alloc, request, text)?)?;
+    Ok(Told {
+        refused,
+        apart,
+        faulted,
+    })
+}
+
+/// Runs a command on these bytes, and tells more of them behind it.
 fn run_on<H: AllocGlobal + Threads + Wait + Sync, W: Write, E: Write>(
     rt: &H,
     words: &[&str],
@@ -207,7 +244,8 @@ fn run_on<H: AllocGlobal + Threads + Wait + Sync, W: Write, E: Write>(
     output: &mut W,
     errors: &mut E,
 ) -> u8
-    ensures { (left : Option (List ℕ)) × RunsMore (map (λ word. word.now) words.now) (behind_text told.now.refused.items told.now.faulted.items)
+    ensures { (left : Option (List ℕ)) × RunsMore (map (λ word. word.now) words.now)
+        (behind_text told.now.refused.items told.now.apart.lines.items told.now.faulted.items)
         (streams (Some bytes.now) (W.contents output.old) (E.contents errors.old))
         (streams left (W.contents output.new) (E.contents errors.new)) result }
 {
@@ -217,8 +255,8 @@ fn run_on<H: AllocGlobal + Threads + Wait + Sync, W: Write, E: Write>(
     status
 }
 
-/// Runs a command on what its source gives. Where it refuses that, it tells more of the fault if that is asked for, and behind a strict run
-/// the accesses that fault. Files are read only where the words ask for something.
+/// Runs a command on what its source gives. Where it refuses that, it tells more of the fault if that is asked for, behind a serial run where
+/// accesses meet that are to be apart, and behind a strict run the accesses that fault. Files are read only where the words ask for something.
 pub fn run_told<'a, H: AllocGlobal + Threads + Wait + Sync, F: Folder, R: Read, W: Write, E: Write>(
     rt: &H,
     folder: &F,
@@ -241,11 +279,9 @@ pub fn run_told<'a, H: AllocGlobal + Threads + Wait + Sync, F: Folder, R: Read, 
         Asked::Unknown(more) => Ok(run_nothing(rt, &plain, &more, input, output, errors)),
         Asked::Known(request) => {
             let bytes = given(rt.alloc(), folder, source, input)?;
-            let told = Told {
-                refused: refusal_told(rt.alloc(), explained, &request, names_of(source), &bytes)?,
-                faulted: faults_told(rt.alloc(), &request, &bytes)?,
-            };
-            Ok(run_on(rt, &plain, &bytes, &told, output, errors))
+            let told = told_of(rt.alloc(), explained, &request, names_of(source), &bytes)?;
+            let status = run_on(rt, &plain, &bytes, &told, output, errors);
+            Ok(told.status(status))
         }
     }
 }

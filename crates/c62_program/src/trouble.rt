@@ -91,6 +91,8 @@ fn wanted_text(option: &str) -> &'static str
         " wants ADDRESS+LENGTH behind it\n"
     } else if option == "--dump" {
         " wants ADDRESS+LENGTH=NAME behind it\n"
+    } else if option == "--base" {
+        " wants ADDRESS behind it\n"
     } else {
         " wants the name of a file behind it\n"
     }

@@ -82,7 +82,7 @@ const LISTING: &str = "   MVK .S1 5,A1\n";
 const REPORT: &str = "blocks 1\nexit end\nA1 00000005\nA2 00000003\n";
 
 /// Words, standard input, and the output, what is told and the status.
-const RUNS: [(&[&str], &[u8], &str, &str, u8); 56] = [
+const RUNS: [(&[&str], &[u8], &str, &str, u8); 60] = [
     (&["pack", "--turns", "first.s"], b"FOO", LISTING, "", 0),
     (&["pack", "first.s", "--eject", "3"], b"FOO", LISTING, "", 0),
     (&["pack", "-"], b"MVK 5,A1", LISTING, "", 0),
@@ -245,7 +245,7 @@ const RUNS: [(&[&str], &[u8], &str, &str, u8); 56] = [
         ],
         b"",
         "",
-        "error: the argument '--blocks <N>' cannot be used multiple times\n\nUsage: c62 serial [--blocks <N>] [--profile] [--strict] [-o <FILE>] [FILE] [SETTING]...\n\nFor more information, try '--help'.\n",
+        "error: the argument '--blocks <N>' cannot be used multiple times\n\nUsage: c62 serial [--apart <REG,REG,..>] [--blocks <N>] [--profile] [--strict] [-o <FILE>] [FILE] [SETTING]...\n\nFor more information, try '--help'.\n",
         2,
     ),
     // the bytes of a file in memory: they apply in the order of the words, and a later byte stands
@@ -319,6 +319,44 @@ const RUNS: [(&[&str], &[u8], &str, &str, u8); 56] = [
         b"",
         "",
         "error: --load wants the name of a file behind it\n",
+        2,
+    ),
+    // memory that begins elsewhere
+    (
+        &[
+            "serial",
+            "-",
+            "--load",
+            "0x80000008=three",
+            "--base",
+            "0x80000000",
+            "--print",
+            "0x80000008+2:h",
+        ],
+        b"",
+        "blocks 0\nexit end\n@80000008 00ff0201\nprint 80000008 0201\n",
+        "",
+        0,
+    ),
+    (
+        &["serial", "-", "--base", "0x80000000", "--load", "8=three"],
+        b"",
+        "",
+        "load 1: past the end\n",
+        2,
+    ),
+    (
+        &["serial", "-", "--base", "2"],
+        b"",
+        "",
+        "setting 1: bad\n",
+        2,
+    ),
+    (
+        &["serial", "--base"],
+        b"",
+        "",
+        "error: --base wants ADDRESS behind it\n",
         2,
     ),
     // memory that is printed
@@ -429,7 +467,7 @@ struct Written<'a> {
 }
 
 /// What is written where there is room.
-const WRITES: [Written<'static>; 14] = [
+const WRITES: [Written<'static>; 15] = [
     Written {
         words: &["pack", "first.s", "-o", "old"],
         wanted: ("", "", 0),
@@ -466,6 +504,19 @@ const WRITES: [Written<'static>; 14] = [
     Written {
         words: &["serial", "-", "--dump", "8+2=old", "@8:b=65,66,67"],
         wanted: ("blocks 0\nexit end\n@0008 00434241\n", "", 0),
+        file: ("old", "AB"),
+    },
+    Written {
+        words: &[
+            "serial",
+            "-",
+            "--base",
+            "0x80000000",
+            "--dump",
+            "0x80000008+2=old",
+            "@0x80000008:b=65,66,67",
+        ],
+        wanted: ("blocks 0\nexit end\n@80000008 00434241\n", "", 0),
         file: ("old", "AB"),
     },
     Written {

@@ -40,8 +40,11 @@ const UNKNOWN: &str = "-:1:2: error: UnknownMnemonic: a mnemonic is wanted here\
 
 const TWICE: &str = "  add .l1 a1,a2,a3\n||  sub .l1 a4,a5,a6\n";
 
+/// Words are loaded, and stored behind B4.
+const STORED: &str = "MVK 256,A4\nMVK 4,A1\nL: LDW *A4++,A2\nSTW A2,*B4++\nSUB A1,1,A1\n[A1] B L\n";
+
 /// Words, standard input, and the output, what is told and the status.
-const RUNS: [(&[&str], &str, &str, &str, u8); 45] = [
+const RUNS: [(&[&str], &str, &str, &str, u8); 52] = [
     (&["lint"], "MVK 1,A1\n", "", "", 0),
     (&["lint"], " FOO\n", UNKNOWN, "", 1),
     (&["lint", "--most", "1"], " FOO\n BAR\n", UNKNOWN, "", 1),
@@ -249,6 +252,68 @@ const RUNS: [(&[&str], &str, &str, &str, u8); 45] = [
         "blocks 2\ncycles 12\nexit limit\n",
         "",
         6,
+    ),
+    // where accesses meet that are to be apart, behind the report
+    (
+        &["serial", "--apart", "A4,B4", "B4=0x108"],
+        STORED,
+        "blocks 5\nexit end\nA4 00000110\nB4 00000118\n",
+        "loop L: lines 4 and 3 touch byte 0x108 in iterations 1 and 3\n",
+        5,
+    ),
+    (
+        &["serial", "--apart=A4,B4", "B4=0x200"],
+        STORED,
+        "blocks 5\nexit end\nA4 00000110\nB4 00000210\n",
+        "loop L: apart held\n",
+        0,
+    ),
+    // by the address, wherever memory begins
+    (
+        &[
+            "serial",
+            "base=0x80000000",
+            "--apart",
+            "B4,A4",
+            "B4=0x80000108",
+            "A3=0x80000104",
+        ],
+        "ADD A3,0,A4\nMVK 4,A1\nL: LDW *A4++,A2\nSTW A2,*B4++\nSUB A1,1,A1\n[A1] B L\n",
+        "blocks 5\nexit end\nA3 80000104\nA4 80000114\nB4 80000118\n",
+        "loop L: lines 4 and 3 touch byte 0x80000108 in iterations 1 and 2\n",
+        5,
+    ),
+    // as far as the run goes
+    (
+        &[
+            "serial", "--strict", "--apart", "A4,B4", "B4=0x108", "--blocks", "4",
+        ],
+        STORED,
+        "blocks 4\nexit limit\nA1 00000001\nA4 0000010c\nB4 00000114\n",
+        "loop L: lines 4 and 3 touch byte 0x108 in iterations 1 and 3\n",
+        6,
+    ),
+    // before the accesses that fault, whose status is above that of a meeting
+    (
+        &["serial", "--strict", "--apart", "A4,B4", "B4=0x109"],
+        STORED,
+        "blocks 5\nexit end\nA4 00000110\nB4 00000119\nfault 4\n",
+        "loop L: apart held\nline 4: STW writes 4 bytes at 0x109, no multiple of 4\n",
+        7,
+    ),
+    (
+        &["serial", "--apart", "A4,B4"],
+        " FOO\n",
+        "",
+        "line 1: UnknownMnemonic\n",
+        1,
+    ),
+    (
+        &["serial", "--apart", "A4,B16"],
+        STORED,
+        "",
+        "apart: bad\n",
+        2,
     ),
     // nothing is explained where only `--strict` stands
     (

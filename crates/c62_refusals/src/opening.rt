@@ -50,7 +50,7 @@ fn set_registers(state: &mut State)
 fn store_word(state: &mut State, address: u32)
     ensures { state.new ≡ record state.old { machine = poked address state.old.machine } }
 {
-    state.poke(address, address.wrapping_mul(1_000_003));
+    state.store_at(address, 4, address.wrapping_mul(1_000_003));
 }
 
 /// The state from which each text runs. `None` where memory was refused.

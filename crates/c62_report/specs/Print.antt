@@ -4,11 +4,11 @@ use Rattle.std.specs.Int.{cast_signed, w8, w16, w32}
 use Rattle.std.specs.Fmt.{signed_decimal}
 use Rattle.c62_serial.specs.State.{Machine, byte_in}
 use Rattle.c62_serial.specs.Memory.{read}
-use Rattle.c62_report.specs.Report.{hex, line}
+use Rattle.c62_report.specs.Report.{hex, line, address_text}
 
--- the value of so many bytes at an address, the lowest first; 0 where these aren't in memory
+-- the value of so many bytes at a place, the lowest first; 0 where these aren't in memory
 abbrev pub value_at : Machine → ℕ → ℕ → ℕ
-value_at machine address size = unwrap_or (read (byte_in machine) address size) 0
+value_at machine place size = unwrap_or (read (byte_in machine) place size) 0
 
 -- the low bytes of a value, so many of them, as a signed number
 abbrev pub signed_value : ℕ → ℕ → ℤ
@@ -21,13 +21,13 @@ signed_value size value =
 abbrev pub value_text : (size : ℕ) → (signed : Bool) → ℕ → List ℕ
 value_text size signed value = if signed then signed_decimal (signed_value size value) else hex (size * 2) value
 
--- `print 0300 0dac`
+-- `print 0300 0dac`, by address and value
 abbrev pub print_line : Machine → (size : ℕ) → (signed : Bool) → ℕ → List ℕ
-print_line machine size signed address =
-    line (codes "print " ++ hex 4 address ++ codes " " ++ value_text size signed (value_at machine address size))
+print_line machine size signed place =
+    line (codes "print " ++ address_text machine.base place ++ codes " " ++ value_text size signed (value_at machine place size))
 
--- so many values, one behind the other from an address on
-unfoldable pub print_lines : Machine → (size : ℕ) → (signed : Bool) → (count address : ℕ) → List ℕ
-print_lines machine size signed zero address = []
-print_lines machine size signed (suc count) address =
-    print_line machine size signed address ++ print_lines machine size signed count ((address + size) % 2 ^ 32)
+-- so many values, one behind the other from a place on
+unfoldable pub print_lines : Machine → (size : ℕ) → (signed : Bool) → (count place : ℕ) → List ℕ
+print_lines machine size signed zero place = []
+print_lines machine size signed (suc count) place =
+    print_line machine size signed place ++ print_lines machine size signed count ((place + size) % 2 ^ 32)

@@ -3,6 +3,7 @@ use Rattle.std.specs.Prelude.{ℕ, zero, suc, ◌+◌, ◌*◌, ◌/◌, ◌%◌
 use Rattle.std.specs.List.{flat_map, range_with_len}
 use Rattle.c62_op.specs.declared.register.Side.{Side}
 use Rattle.c62_op.specs.declared.register.Side.TheVariants.{A, B}
+use Rattle.c62_op.specs.Word.{sum}
 use Rattle.c62_op.specs.Name.{file_letter}
 use Rattle.c62_serial.specs.declared.state.TheConstants.{MEMORY_BYTES}
 use Rattle.c62_serial.specs.declared.chain.Chain.{Chain}
@@ -35,9 +36,13 @@ register_line machine side number = value_line (file_letter side ++ decimal numb
 unfoldable pub file_lines : Machine → Side → List ℕ
 file_lines machine side = flat_map (register_line machine side) (range_with_len 0 16)
 
+-- the address of a place in memory: four digits where memory begins at 0, else eight
+abbrev pub address_text : (base place : ℕ) → List ℕ
+address_text base place = hex (if base == 0 then 4 else 8) (sum base place)
+
 -- word k of memory, little endian: `@AAAA V`
 abbrev pub word_line : Machine → ℕ → List ℕ
-word_line machine k = value_line (codes "@" ++ hex 4 (4 * k)) (number_of (bytes_from (byte_in machine) (4 * k) 4))
+word_line machine k = value_line (codes "@" ++ address_text machine.base (4 * k)) (number_of (bytes_from (byte_in machine) (4 * k) 4))
 
 -- the first words of memory, rising
 unfoldable pub word_lines : Machine → ℕ → List ℕ

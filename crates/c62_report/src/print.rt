@@ -6,17 +6,17 @@ ghost use Rattle.c62_serial.specs.Memory.{is_size};
 ghost use Rattle.c62_report.specs.Report.{hex};
 ghost use Rattle.c62_report.specs.Print.{print_line, print_lines, signed_value, value_at, value_text};
 
-use crate::report::push_hex;
+use crate::report::{push_address, push_hex};
 use c62_serial::State;
 use itoa::Buffer;
 use std::alloc::AllocError;
 
-/// The value of so many bytes at an address.
-fn value_at(state: &State, address: u32, size: u8) -> u32
+/// The value of so many bytes at a place.
+fn value_at(state: &State, place: u32, size: u8) -> u32
     requires { IsTrue (is_size size) }
-    ensures { result ≡ value_at state.now.machine address size }
+    ensures { result ≡ value_at state.now.machine place size }
 {
-    match state.load(address, size) {
+    match state.load_at(place, size) {
         Some(value) => value,
         None => 0,
     }
@@ -50,21 +50,21 @@ fn push_value_text(out: &mut Vec<u8>, size: u8, signed: bool, value: u32) -> Res
 fn push_line(
     out: &mut Vec<u8>,
     state: &State,
-    address: u32,
+    place: u32,
     size: u8,
     signed: bool,
 ) -> Result<(), AllocError>
     requires { IsTrue (is_size size) }
-    ensures { OnOk result (out.new.items ≡ out.old.items ++ print_line state.now.machine size signed address) }
+    ensures { OnOk result (out.new.items ≡ out.old.items ++ print_line state.now.machine size signed place) }
 {
     out.extend_from_slice(b"print ")?;
-    push_hex(out, 4, address)?;
+    push_address(out, state.base(), place)?;
     out.extend_from_slice(b" ")?;
-    push_value_text(out, size, signed, value_at(state, address, size))?;
+    push_value_text(out, size, signed, value_at(state, place, size))?;
     out.extend_from_slice(b"\n")
 }
 
-/// Adds the lines of so many values from an address on, each of so many bytes.
+/// Adds the lines of so many values from a place in memory on, each of so many bytes.
 ///
 /// # Errors
 ///
@@ -72,19 +72,19 @@ fn push_line(
 pub fn push_print(
     out: &mut Vec<u8>,
     state: &State,
-    address: u32,
+    place: u32,
     count: u32,
     size: u8,
     signed: bool,
 ) -> Result<(), AllocError>
     requires { IsTrue (is_size size) }
-    ensures { OnOk result (out.new.items ≡ out.old.items ++ print_lines state.now.machine size signed count address) }
+    ensures { OnOk result (out.new.items ≡ out.old.items ++ print_lines state.now.machine size signed count place) }
 {
-    let mut address = address;
+    let mut place = place;
     let mut left = count;
     while left > 0 {
-        push_line(out, state, address, size, signed)?;
-        address = address.wrapping_add(u32::from(size));
+        push_line(out, state, place, size, signed)?;
+        place = place.wrapping_add(u32::from(size));
         left -= 1;
     }
     Ok(())

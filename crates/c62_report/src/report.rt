@@ -1,9 +1,9 @@
 //! Writes the report of a run (docs/REPORT.md).
 
-ghost use Rattle.std.specs.Prelude.{◌≡◌, ◌==◌, ◌++◌, ◌*◌, ◌<◌, ◌≤◌, not, IfOk, OnOk, decimal, codes};
+ghost use Rattle.std.specs.Prelude.{◌≡◌, ◌==◌, ◌++◌, ◌*◌, ◌<◌, ◌≤◌, not, if◌then◌else◌, IfOk, OnOk, decimal, codes};
 ghost use Rattle.std.specs.List.{flat_map};
 ghost use Rattle.c62_op.specs.Name.{file_letter, register_name};
-ghost use Rattle.c62_report.specs.Report.{hex_digit, hex, line, value_line, register_line, file_lines, word_line, word_lines, fault_line, exit_line, machine_lines, serial_report, packet_report};
+ghost use Rattle.c62_report.specs.Report.{hex_digit, hex, address_text, line, value_line, register_line, file_lines, word_line, word_lines, fault_line, exit_line, machine_lines, serial_report, packet_report};
 
 use c62_insn::{Reg, Side};
 use c62_serial::{Chain, End, MEMORY_BYTES, State};
@@ -93,16 +93,30 @@ fn push_file(out: &mut Vec<u8>, state: &State, side: Side) -> Result<(), AllocEr
     Ok(())
 }
 
+/// How many digits the addresses of memory have that begins there.
+fn address_digits(base: u32) -> u8
+    ensures { result ≡ (if base == 0 then 4 else 8) }
+{
+    if base == 0 { 4 } else { 8 }
+}
+
+/// The address of a place in memory that begins at a base.
+pub(crate) fn push_address(out: &mut Vec<u8>, base: u32, place: u32) -> Result<(), AllocError>
+    ensures { OnOk result (out.new.items ≡ out.old.items ++ address_text base place) }
+{
+    push_hex(out, address_digits(base), base.wrapping_add(place))
+}
+
 /// The line of a word of memory that isn't 0.
 #[tactic(auto, unfolding(crate::specs::Report::value_line))]
-fn push_word_line(out: &mut Vec<u8>, address: u32, value: u32) -> Result<(), AllocError>
-    ensures { OnOk result (out.new.items ≡ out.old.items ++ value_line (codes "@" ++ hex 4 address) value) }
+fn push_word_line(out: &mut Vec<u8>, base: u32, place: u32, value: u32) -> Result<(), AllocError>
+    ensures { OnOk result (out.new.items ≡ out.old.items ++ value_line (codes "@" ++ address_text base place) value) }
 {
     if !is_reported(value) {
         return Ok(());
     }
     out.extend_from_slice(b"@")?;
-    push_hex(out, 4, address)?;
+    push_address(out, base, place)?;
     push_value(out, value)
 }
 
@@ -112,10 +126,10 @@ fn push_words(out: &mut Vec<u8>, state: &State, count: u32) -> Result<(), AllocE
     ensures { OnOk result (out.new.items ≡ out.old.items ++ word_lines state.now.machine count) }
 {
     for k in 0..count {
-        let Some(value) = state.load(4 * k, 4) else {
+        let Some(value) = state.load_at(4 * k, 4) else {
             unreachable!()
         };
-        push_word_line(out, 4 * k, value)?;
+        push_word_line(out, state.base(), 4 * k, value)?;
     }
     Ok(())
 }

@@ -105,8 +105,12 @@ const UNCHECKED: [(&[u8], &str); 14] = [
 const SUM: &[u8] =
     b"L: LDW .D1 *A4++,A2\n ADD .L1 A2,A3,A3\n SUB .S1 A1,1,A1\n [A1] B .S2 L\n---\n SUB .S1 A1,6,A1\n [A1] SUB .S1 A1,1,A1\n|| [A1] B .S2 L\n|| LDW .D1 *A4++,A2\n [A1] SUB .S1 A1,1,A1\n|| [A1] B .S2 L\n|| LDW .D1 *A4++,A2\n [A1] SUB .S1 A1,1,A1\n|| [A1] B .S2 L\n|| LDW .D1 *A4++,A2\n [A1] SUB .S1 A1,1,A1\n|| [A1] B .S2 L\n|| LDW .D1 *A4++,A2\n [A1] SUB .S1 A1,1,A1\n|| [A1] B .S2 L\n|| LDW .D1 *A4++,A2\nL: [A1] SUB .S1 A1,1,A1\n|| [A1] B .S2 L\n|| LDW .D1 *A4++,A2\n|| ADD .L1 A2,A3,A3\n ADD .L1 A2,A3,A3\n ADD .L1 A2,A3,A3\n ADD .L1 A2,A3,A3\n ADD .L1 A2,A3,A3\n ADD .L1 A2,A3,A3\n";
 
+/// The same with packets that have no epilog.
+const SUM_PAST: &[u8] =
+    b"L: LDW .D1 *A4++,A2\n ADD .L1 A2,A3,A3\n SUB .S1 A1,1,A1\n [A1] B .S2 L\n---\n SUB .S1 A1,1,A1\n [A1] SUB .S1 A1,1,A1\n|| [A1] B .S2 L\n|| LDW .D1 *A4++,A2\n [A1] SUB .S1 A1,1,A1\n|| [A1] B .S2 L\n|| LDW .D1 *A4++,A2\n [A1] SUB .S1 A1,1,A1\n|| [A1] B .S2 L\n|| LDW .D1 *A4++,A2\n [A1] SUB .S1 A1,1,A1\n|| [A1] B .S2 L\n|| LDW .D1 *A4++,A2\n [A1] SUB .S1 A1,1,A1\n|| [A1] B .S2 L\n|| LDW .D1 *A4++,A2\nL: [A1] SUB .S1 A1,1,A1\n|| [A1] B .S2 L\n|| LDW .D1 *A4++,A2\n|| ADD .L1 A2,A3,A3\n NOP 4\n";
+
 /// Words of a check of loops, an input, the status, and what is written.
-const LOOPS: [(&[&str], &[u8], u8, &str); 6] = [
+const LOOPS: [(&[&str], &[u8], u8, &str); 8] = [
     (
         &["check", "--loops", "--trips", "L=6"],
         SUM,
@@ -124,6 +128,18 @@ const LOOPS: [(&[&str], &[u8], u8, &str); 6] = [
         SUM,
         5,
         "loop L same from 6 trips cycles 1\n",
+    ),
+    (
+        &["check", "--loops", "--trips", "L=1"],
+        SUM_PAST,
+        0,
+        "loop L same from 1 trips cycles 1 but A2 A4 fault 1\n",
+    ),
+    (
+        &["check", "--loops"],
+        SUM_PAST,
+        5,
+        "loop L same from 1 trips cycles 1 but A2 A4 fault 1\n",
     ),
     (&["check", "--loops"], b"---", 0, ""),
     (

@@ -4,13 +4,25 @@ use c62_answer::run_on_bytes;
 use std::test::Fail;
 
 /// Words, a text of packets, and the report of its flight.
-const FLOWN: [(&[&str], &[u8], &str); 14] = [
+const FLOWN: [(&[&str], &[u8], &str); 15] = [
     (&["exec"], b"", "cycles 0\nexit end\n"),
     // A branch ends a NOP, and what was loaded lands behind the end.
     (
         &["exec", "A4=8", "@8=7"],
         b"B .S2 L\n NOP 4\n|| LDW .D1 *A4,A5\n NOP 9\nL:\n",
         "cycles 6\nexit end\nA4 00000008\nA5 00000007\n@0008 00000007\n",
+    ),
+    // Memory begins elsewhere.
+    (
+        &[
+            "exec",
+            "base=0x80000000",
+            "A4=0x80000008",
+            "@0x80000008=7",
+            "print=0x80000008+4",
+        ],
+        b"LDW .D1 *A4++,A5\n NOP 4\n STW .D1 A5,*A4\n",
+        "cycles 6\nexit end\nA4 8000000c\nA5 00000007\n@80000008 00000007\n@8000000c 00000007\nprint 80000008 00000007\n",
     ),
     // Where the cycles went: a branch ends a NOP, nothing is begun, and cycles pass behind the last row.
     (

@@ -269,16 +269,17 @@ Options:
         &["serial", "-h"],
         "Runs serial text, one instruction after the other, and reports the end
 
-Usage: c62 serial [--blocks <N>] [--profile] [--strict] [-o <FILE>] [FILE] [SETTING]...
+Usage: c62 serial [--apart <REG,REG,..>] [--blocks <N>] [--profile] [--strict] [-o <FILE>] [FILE] [SETTING]...
 
 Arguments:
   [SETTING]...  REG=NUMBER sets a register, @ADDRESS=NUMBER,.. words of memory; with :h or :b halves or bytes
 
 Options:
-      --blocks <N>  Runs at most N blocks, 1 to 1000000; 1000 where none is given
-      --profile     Adds a table of how often each block was run, and what it took
-      --strict      Ends with status 7 where an access faults, and else with 6 at the limit
-  -h, --help        Print help
+      --apart <REG,REG,..>  A promise: accesses from two of these registers never touch one byte in two iterations
+      --blocks <N>          Runs at most N blocks, 1 to 1000000; 1000 where none is given
+      --profile             Adds a table of how often each block was run, and what it took
+      --strict              Ends with status 7 where an access faults, and else with 6 at the limit
+  -h, --help                Print help
 ",
         "c62 serial kernel.s A4=8 @8=99",
     ),

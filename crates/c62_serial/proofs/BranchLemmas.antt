@@ -38,11 +38,11 @@ targets_branch _ (Register reg) u reads target h t = cc
 targets_branch op _ u reads target h t = cc
 
 -- an instruction that goes somewhere is a branch
-pub goes_branch : (insn : Insn) (word : Reg → ℕ) (byte : ℕ → ℕ) (target : Target)
-    → (act_of insn word byte).target ≡ Some target → is_branch (op_of insn) ≡ true
-goes_branch insn word byte target h = either (runs word insn) h
+pub goes_branch : (insn : Insn) (base : ℕ) (word : Reg → ℕ) (byte : ℕ → ℕ) (target : Target)
+    → (act_of insn base word byte).target ≡ Some target → is_branch (op_of insn) ≡ true
+goes_branch insn base word byte target h = either (runs word insn) h
   where
-    either : (b : Bool) → (if b then act_on insn (operand_values word insn) byte else no_act).target ≡ Some target
+    either : (b : Bool) → (if b then act_on insn base (operand_values word insn) byte else no_act).target ≡ Some target
         → is_branch (op_of insn) ≡ true
     either true t = targets_branch (op_of insn) (operands_of insn) (has_unit insn).0 (operand_values word insn) target
         (has_unit insn).1 t
@@ -72,7 +72,7 @@ ran_whole insns all opening machine next i entry target e sound l found before m
     let block : branch_last (operations all) ≡ true = rw e
     (and_parts (nat_le (length insns) MOST_INSTRUCTIONS) (branch_last (operations insns)) sound).1 in
     let branch : is_branch (op_of (get_or all i entry).insn) ≡ true = rw (← found)
-    (goes_branch entry.insn (word_in machine) (byte_in machine) target goes) in
+    (goes_branch entry.insn machine.base (word_in machine) (byte_in machine) target goes) in
     let last : i + 1 ≡ length all = branch_ends all i entry block l branch in
     let whole : take (i + 1) all ≡ all = take_all (i + 1) all (omega arith) in
     let more = fold_more after_insn (record { machine = opening; exit = Next }) all i entry l in

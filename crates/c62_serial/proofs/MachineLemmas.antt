@@ -73,7 +73,7 @@ sound_run insns machine sound = sound_from insns (record { machine = machine; ex
 -- ---- machines that hold the same
 
 pub same_machine : (one other : Machine) → IsSound one → IsSound other → HoldsTheSame one other → one ≡ other
-same_machine one other sound sound' same = made registers memory faults
+same_machine one other sound sound' same = made same.base registers memory faults
   where
     register : (k : ℕ) → k < length one.registers → get_or one.registers k 0 ≡ get_or other.registers k 0
     register k h =
@@ -91,9 +91,11 @@ same_machine one other sound sound' same = made registers memory faults
     faults : one.faults ≡ other.faults
     faults = same_rising one.faults other.faults sound.rising sound'.rising same.faults
 
-    made : one.registers ≡ other.registers → one.memory ≡ other.memory → one.faults ≡ other.faults → one ≡ other
-    made e f g =
-        ap (λ (xs : List ℕ). record one { registers = xs }) e
+    made : one.base ≡ other.base → one.registers ≡ other.registers → one.memory ≡ other.memory
+        → one.faults ≡ other.faults → one ≡ other
+    made b e f g =
+        ap (λ (base : ℕ). record one { base = base }) b
+        ∙ ap (λ (xs : List ℕ). record one { base = other.base; registers = xs }) e
         ∙ ap (λ (xs : List ℕ). record other { memory = xs; faults = one.faults }) f
         ∙ ap (λ (xs : List ℕ). record other { faults = xs }) g
 

@@ -11,9 +11,9 @@ use Rattle.c62_insn.specs.declared.insn.Insn.{Insn}
 use Rattle.c62_insn.specs.Insn.{op_of, operands_of, cond_of, operand_reads, register_writes}
 use Rattle.c62_op.specs.Meaning.{loaded_of}
 use Rattle.c62_insn.specs.Effect.{runs_of, values_of, access_of, target_of}
-use Rattle.c62_serial.specs.Memory.{is_good, read}
+use Rattle.c62_serial.specs.Memory.{is_good, read, placed_from}
 
--- the writes as pairs of register and delay with a value each, the access and the branch
+-- the writes as pairs of register and delay with a value each, the access by its place in memory, and the branch
 pub record Act : Type 0 where
   pub writes : List ((Reg × ℕ) × ℕ)
   pub access : Option MemoryAccess
@@ -38,17 +38,18 @@ abbrev pub loaded : (ℕ → ℕ) → Op → Option MemoryAccess → Option ℕ
 loaded byte op None = None
 loaded byte op (Some access) = if is_some access.value then None else Some (extended op (read byte access.address access.size))
 
--- what an instruction that runs does, of the values of its operands: a base is written before a load's destination
-abbrev pub act_on : Insn → List ℕ → (ℕ → ℕ) → Act
-act_on insn reads byte = let access = access_of (op_of insn) (operands_of insn) reads in record {
+-- what an instruction that runs does, of the values of its operands, where memory begins at a base: a base register is
+-- written before a load's destination
+abbrev pub act_on : Insn → ℕ → List ℕ → (ℕ → ℕ) → Act
+act_on insn base reads byte = let access = placed_from base (access_of (op_of insn) (operands_of insn) reads) in record {
   writes = zip (register_writes insn) (values_of (op_of insn) (operands_of insn) reads ++ option_to_list (loaded byte (op_of insn) access));
   access = access;
   target = target_of (operands_of insn) reads;
 }
 
 -- what an instruction does; nothing where its condition does not hold
-abbrev pub act_of : Insn → (Reg → ℕ) → (ℕ → ℕ) → Act
-act_of insn word byte = if runs word insn then act_on insn (operand_values word insn) byte else no_act
+abbrev pub act_of : Insn → ℕ → (Reg → ℕ) → (ℕ → ℕ) → Act
+act_of insn base word byte = if runs word insn then act_on insn base (operand_values word insn) byte else no_act
 
 -- the access is misaligned or reaches past the end of memory
 abbrev pub is_fault : Option MemoryAccess → Bool

@@ -23,6 +23,6 @@ after_fault lines line fault = if fault then joined line lines else lines
 abbrev pub with_fault_if : ℕ → Bool → Machine → Machine
 with_fault_if line fault machine = record machine { faults = after_fault machine.faults line fault }
 
--- the machine after a store of the low bytes of a value, which may fault
+-- the machine after a store of the low bytes of a value at a place, which may fault
 abbrev pub with_store : ℕ → ℕ → ℕ → ℕ → Machine → Machine
-with_store line address size value machine = with_fault_if line (not (is_good address size)) (with_bytes address size value machine)
+with_store line place size value machine = with_fault_if line (not (is_good place size)) (with_bytes place size value machine)

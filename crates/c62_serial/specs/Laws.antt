@@ -10,7 +10,7 @@ use Rattle.c62_read.specs.Block.{Serial}
 use Rattle.c62_serial.specs.declared.state.TheConstants.{MEMORY_BYTES}
 use Rattle.c62_serial.specs.declared.serial.Exit.TheVariants.{Next}
 use Rattle.c62_serial.specs.State.{Machine, word_in, byte_in, with_word}
-use Rattle.c62_serial.specs.Memory.{is_good, is_size, read, written}
+use Rattle.c62_serial.specs.Memory.{is_good, is_size, place_from, read, written}
 use Rattle.c62_serial.specs.Faults.{joined}
 use Rattle.c62_serial.specs.Effect.{Act, runs, is_fault}
 use Rattle.c62_serial.specs.Serial.{Ran, after_act, after_insn, serial}
@@ -38,6 +38,12 @@ StoresWordAsBytes memory address value =
     written address 4 value memory
     ≡ written (address + 3) 1 (value / 2 ^ 24) (written (address + 2) 1 (value / 2 ^ 16) (written (address + 1) 1 (value / 2 ^ 8) (written address 1 value memory)))
 
+-- where memory begins at a multiple of 4 and ends by 2^32, an access is good that lies on its size and within it by its address
+abbrev pub LiesByItsAddress : (base address size : ℕ) → Type 0
+LiesByItsAddress base address size = base % 4 ≡ 0 → base + MEMORY_BYTES ≤ 2 ^ 32 → address < 2 ^ 32 → IsTrue (is_size size)
+    → IsTrue (is_good (place_from base address) size)
+    ↔ ((address % size ≡ 0) × (base ≤ address) × (address + size ≤ base + MEMORY_BYTES))
+
 -- a register holds the word that was put into it, and each other one its own
 pub record HoldsItsWord (machine : Machine) (reg : Reg) (value : ℕ) : Type 0 where
   pub held : word_in (with_word reg value machine) reg ≡ value
@@ -48,8 +54,9 @@ pub record JoinsLines (lines : List ℕ) (line : ℕ) : Type 0 where
   pub rising : IsStrictlyIncreasing (joined line lines)
   pub holds : (other : ℕ) → Contains (joined line lines) other ↔ ((other ≡ line) ⊎ Contains lines other)
 
--- the machines hold the same words and bytes, and the same lines faulted
+-- the machines hold the same words and bytes, and the same lines faulted; their memory begins at one address
 pub record HoldsTheSame (one other : Machine) : Type 0 where
+  pub base : one.base ≡ other.base
   pub words : (reg : Reg) → word_in one reg ≡ word_in other reg
   pub bytes : (address : ℕ) → address < MEMORY_BYTES → byte_in one address ≡ byte_in other address
   pub faults : (line : ℕ) → Contains one.faults line ↔ Contains other.faults line

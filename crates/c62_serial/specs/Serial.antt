@@ -16,7 +16,7 @@ use Rattle.c62_read.specs.declared.block.SerialInsn.{SerialInsn}
 use Rattle.c62_serial.specs.declared.serial.Exit.{Exit}
 use Rattle.c62_serial.specs.declared.serial.Exit.TheVariants.{Next, Block, Register}
 use Rattle.c62_serial.specs.State.{Machine, index_of, word_in, byte_in}
-use Rattle.c62_serial.specs.Memory.{written}
+use Rattle.c62_serial.specs.Memory.{written, placed_from}
 use Rattle.c62_serial.specs.Faults.{with_fault_if}
 use Rattle.c62_serial.specs.Effect.{Act, act_of, loaded, is_fault}
 
@@ -51,17 +51,17 @@ with_writes writes machine = record machine { registers = fold after_write machi
 abbrev pub after_act : ℕ → Act → Machine → Machine
 after_act line act machine = with_writes act.writes (with_access line act.access machine)
 
--- what an instruction did that took this action, of the bytes before it
-abbrev pub act_by : Op → Action → (ℕ → ℕ) → Act
-act_by op action byte = record {
-  writes = zip (writes_in op action) (values_in action ++ option_to_list (loaded byte op (access_in action)));
-  access = access_in action;
+-- what an instruction did that took this action, where memory begins at a base and had these bytes before it
+abbrev pub act_by : Op → Action → ℕ → (ℕ → ℕ) → Act
+act_by op action base byte = let access = placed_from base (access_in action) in record {
+  writes = zip (writes_in op action) (values_in action ++ option_to_list (loaded byte op access));
+  access = access;
   target = target_in action;
 }
 
 -- the machine after an instruction of this line took this action
 abbrev pub after_action : ℕ → Op → Action → Machine → Machine
-after_action line op action machine = after_act line (act_by op action (byte_in machine)) machine
+after_action line op action machine = after_act line (act_by op action machine.base (byte_in machine)) machine
 
 -- the same of its load or store
 abbrev pub after_transfer : SerialInsn → Transfer → Machine → Machine
@@ -78,7 +78,7 @@ exit_after exit (Some target) = exit_to target
 
 -- an instruction acts on what a run left
 abbrev pub act_in : Machine → SerialInsn → Act
-act_in machine entry = act_of entry.insn (word_in machine) (byte_in machine)
+act_in machine entry = act_of entry.insn machine.base (word_in machine) (byte_in machine)
 
 -- the machine after an instruction
 abbrev pub after_entry : SerialInsn → Machine → Machine

@@ -12,7 +12,7 @@ ghost use Rattle.c62_serial.specs.Memory.{is_size, is_good};
 ghost use Rattle.c62_serial.specs.Effect.{Act};
 ghost use Rattle.c62_serial.specs.Serial.{Ran, after_act, serial};
 ghost use Rattle.c62_serial.specs.Chain.{Standing, IsProgramChain};
-ghost use Rattle.c62_serial.specs.Laws.{StoresItsBytes, LoadsWhatWasStored, StoresWordAsBytes, HoldsItsWord, JoinsLines, HoldsTheSame, ActsOnEach, DoesNothing, RunsInTurn, IfStorable, HasOneChain};
+ghost use Rattle.c62_serial.specs.Laws.{StoresItsBytes, LoadsWhatWasStored, StoresWordAsBytes, HoldsItsWord, JoinsLines, HoldsTheSame, ActsOnEach, DoesNothing, RunsInTurn, IfStorable, HasOneChain, LiesByItsAddress};
 
 /// A store puts its bytes into memory, the lowest first, and changes no other.
 pub fn stores_its_bytes()
@@ -30,6 +30,12 @@ pub fn loads_what_was_stored()
 pub fn stores_word_as_bytes()
     ensures { (memory : List ℕ) (address value : ℕ)
         → IfStorable memory address 4 (StoresWordAsBytes memory address value) }
+{}
+
+/// An access is good where its address is a multiple of its size and it lies within memory, which
+/// begins at a multiple of 4 and ends by 2^32.
+pub fn lies_by_its_address()
+    ensures { (base address size : ℕ) → LiesByItsAddress base address size }
 {}
 
 /// A register holds the word that was put into it, and the others keep theirs.

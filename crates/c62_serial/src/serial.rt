@@ -91,7 +91,7 @@ fn run_insn(entry: &SerialInsn, state: &mut State) -> Option<Target>
 
 /// Runs the instructions of a block one after the other, without delays: each acts on what the one
 /// before it left, and a base is changed before a load's destination is. A misaligned access, or one
-/// past the end of memory, reads 0 or stores nothing, its line joins the faulted ones, and the run
+/// that is not within memory, reads 0 or stores nothing, its line joins the faulted ones, and the run
 /// goes on. Answers the exit of the branch, where it ran, else [`Exit::Next`].
 ///
 /// Room for a fault of each instruction is made first, by the state's own allocator.

@@ -15,11 +15,13 @@ pub const MEMORY_BYTES: usize = 65_536;
 /// How many lines of a row have a place each: as many as a block can have instructions.
 const PLACES: usize = 256;
 
-/// Thirty-two registers, 65,536 bytes of memory, and the lines whose accesses faulted, each once and
-/// rising. It has room for some more such lines; all calls but [`State::new`] and [`State::room`] take
+/// Thirty-two registers, 65,536 bytes of memory from an address on, and the lines whose accesses
+/// faulted, each once and rising. It has room for some more such lines; all calls but [`State::new`] and [`State::room`] take
 /// no memory.
 #[derive(Drop)]
 pub struct State {
+    /// The address at which memory begins.
+    base: u32,
     registers: [u32; 32],
     memory: Vec<u8>,
     faults: Vec<u32>,
@@ -35,27 +37,27 @@ impl Model for State {
     ghost Value = { Contents };
 
     ghost view = { λ state. record {
-      machine = machine_of state.registers state.memory.items state.faults.items;
+      machine = machine_of state.base state.registers state.memory.items state.faults.items;
       room = vec_capacity state.faults - vec_len state.faults;
     } };
 
-    ghost invariant = { λ state. IsSound (machine_of state.registers state.memory.items state.faults.items) };
+    ghost invariant = { λ state. IsSound (machine_of state.base state.registers state.memory.items state.faults.items) };
 }
 
-ghost use Rattle.c62_serial.specs.State.{Machine, IsSound, line_capacity, IsZero, word_in, byte_in, with_word};
-ghost use Rattle.c62_serial.specs.Memory.{is_size, is_good, number_of, bytes_from, bytes_of, read, put, with_bytes};
+ghost use Rattle.c62_serial.specs.State.{Machine, IsSound, line_capacity, IsZero, word_in, byte_in, with_base, with_word};
+ghost use Rattle.c62_serial.specs.Memory.{is_size, is_good, number_of, bytes_from, bytes_of, read, put, with_bytes, place_in};
 ghost use Rattle.c62_serial.specs.Faults.{joined, with_fault, FindsPlace};
 
-/// Whether the access lies on its size and within memory.
-fn is_good(address: u32, size: u8) -> bool
+/// Whether the access at a place lies on its size and within memory.
+fn is_good(place: u32, size: u8) -> bool
     requires { IsTrue (is_size size) }
-    ensures { result ≡ is_good address size }
+    ensures { result ≡ is_good place size }
 {
     let size = u32::from(size);
-    address % size == 0 && address <= MEMORY_BYTES as u32 - size
+    place % size == 0 && place <= MEMORY_BYTES as u32 - size
 }
 
-/// The bytes from an address on as a number, the lowest first.
+/// The bytes from a place on as a number, the lowest first.
 fn number_at(memory: &[u8], at: usize, size: u8) -> u32
     requires size { IsTrue (is_size size) }
     requires within { at + size ≤ length memory.now }
@@ -68,7 +70,7 @@ fn number_at(memory: &[u8], at: usize, size: u8) -> u32
     }
 }
 
-/// Puts the low bytes of a value from an address on, the lowest first.
+/// Puts the low bytes of a value from a place on, the lowest first.
 fn put(memory: &mut [u8], at: usize, size: u8, value: u32)
     requires size { IsTrue (is_size size) }
     requires within { at + size ≤ length memory.old }
@@ -101,7 +103,8 @@ fn stands_at(lines: &[u32], index: usize, line: u32) -> bool
 }
 
 impl State {
-    /// A state in which all registers and bytes are 0 and no line has faulted.
+    /// A state in which all registers and bytes are 0 and no line has faulted. Its memory begins at
+    /// address 0.
     ///
     /// # Errors
     ///
@@ -110,11 +113,34 @@ impl State {
         ensures { IfOk result (λ state. IsZero state.machine) }
     {
         Ok(State {
+            base: 0,
             registers: [0; 32],
             memory: vec![in alloc; 0; MEMORY_BYTES]?,
             faults: Vec::new(alloc),
             places: [0; PLACES],
         })
+    }
+
+    /// The address at which memory begins.
+    pub fn base(&self) -> u32
+        ensures { result ≡ self.now.machine.base }
+    {
+        self.base
+    }
+
+    /// Lets memory begin at this address. What it holds stays.
+    pub fn set_base(&mut self, base: u32)
+        ensures { self.new ≡ record self.old { machine = with_base base self.old.machine } }
+    {
+        self.base = base;
+    }
+
+    /// The place of an address: how many bytes it lies behind that at which memory begins, modulo
+    /// 2^32. Those of memory are below 65,536.
+    pub fn place(&self, address: u32) -> u32
+        ensures { result ≡ place_in self.now.machine address }
+    {
+        address.wrapping_sub(self.base)
     }
 
     /// The word in a register.
@@ -138,36 +164,53 @@ impl State {
         &self.registers
     }
 
-    /// The byte at an address.
-    pub fn byte(&self, address: u16) -> u8
-        ensures { result ≡ byte_in self.now.machine address }
+    /// The byte at a place: so many bytes behind the first of memory.
+    pub fn byte(&self, place: u16) -> u8
+        ensures { result ≡ byte_in self.now.machine place }
     {
-        self.memory[usize::from(address)]
+        self.memory[usize::from(place)]
     }
 
     /// What a load of 1, 2 or 4 bytes reads, as a number with the lowest byte first; `None` where the
-    /// address is no multiple of the size, or the access reaches past the end of memory.
+    /// place of the address is no multiple of the size, or the access is not within memory.
     pub fn load(&self, address: u32, size: u8) -> Option<u32>
         requires { IsTrue (is_size size) }
-        ensures { result ≡ read (byte_in self.now.machine) address size }
+        ensures { result ≡ read (byte_in self.now.machine) (place_in self.now.machine address) size }
     {
-        if is_good(address, size) {
-            Some(number_at(&self.memory, address as usize, size))
+        self.load_at(self.place(address), size)
+    }
+
+    /// What a load reads as [`State::load`] does, by the place of its address.
+    pub fn load_at(&self, place: u32, size: u8) -> Option<u32>
+        requires { IsTrue (is_size size) }
+        ensures { result ≡ read (byte_in self.now.machine) place size }
+    {
+        if is_good(place, size) {
+            Some(number_at(&self.memory, place as usize, size))
         } else {
             None
         }
     }
 
     /// Stores the low 1, 2 or 4 bytes of a value, the lowest first. Answers whether it did: where the
-    /// address is no multiple of the size, or the access reaches past the end of memory, nothing
+    /// place of the address is no multiple of the size, or the access is not within memory, nothing
     /// changes.
     pub fn store(&mut self, address: u32, size: u8, value: u32) -> bool
         requires { IsTrue (is_size size) }
-        ensures done { result ≡ is_good address size }
-        ensures after { self.new ≡ record self.old { machine = with_bytes address size value self.old.machine } }
+        ensures done { result ≡ is_good (place_in self.old.machine address) size }
+        ensures after { self.new ≡ record self.old { machine = with_bytes (place_in self.old.machine address) size value self.old.machine } }
     {
-        if is_good(address, size) {
-            put(&mut self.memory, address as usize, size, value);
+        self.store_at(self.place(address), size, value)
+    }
+
+    /// Stores as [`State::store`] does, by the place of the address.
+    pub fn store_at(&mut self, place: u32, size: u8, value: u32) -> bool
+        requires { IsTrue (is_size size) }
+        ensures done { result ≡ is_good place size }
+        ensures after { self.new ≡ record self.old { machine = with_bytes place size value self.old.machine } }
+    {
+        if is_good(place, size) {
+            put(&mut self.memory, place as usize, size, value);
             true
         } else {
             false
@@ -176,8 +219,8 @@ impl State {
 
     /// Stores a word, as [`State::store`] does.
     pub fn poke(&mut self, address: u32, value: u32) -> bool
-        ensures done { result ≡ is_good address 4 }
-        ensures after { self.new ≡ record self.old { machine = with_bytes address 4 value self.old.machine } }
+        ensures done { result ≡ is_good (place_in self.old.machine address) 4 }
+        ensures after { self.new ≡ record self.old { machine = with_bytes (place_in self.old.machine address) 4 value self.old.machine } }
     {
         self.store(address, WORD, value)
     }

@@ -4,4 +4,5 @@ pub mod Refusals
 pub mod Reported
 pub mod Values
 pub mod Strict
+pub mod Meets
 pub mod Asked

@@ -1,6 +1,7 @@
 -- The accesses that are told are of the lines that a report names.
 use Rattle.std.proofs.Common.{◌≡◌, ◌∙◌, ◌⊎◌, inl, inr, ℕ, ◌<◌, ◌≤◌, List, [], ◌∷◌, length, refl, sym, ap, subst, arith}
 use Rattle.std.specs.Prelude.{◌↔◌, All, Contains, IsTrue, fold, slice_index, true}
+use Rattle.std.specs.List.{flat_map}
 use Rattle.std.proofs.lemmas.Bool.{cases_lt}
 use Rattle.std.proofs.lemmas.List.{get_or_past}
 use Rattle.c62_op.specs.declared.register.Reg.{Reg}
@@ -17,12 +18,13 @@ use Rattle.c62_flight.specs.Text.{Text as FlightText}
 use Rattle.c62_flight.specs.Flight.{Flies}
 use Rattle.c62_faulted.specs.declared.fault.Fault.{Fault}
 use Rattle.c62_faulted.specs.Faulted.{has_line}
+use Rattle.c62_faulted.specs.Sentence.{fault_text}
 use Rattle.c62_faulted.proofs.LineLemmas.{tells_lines}
 use Rattle.c62_faulted_packets.proofs.Lines.{tells_flight_lines, tells_packet_lines}
 use Rattle.c62_command.specs.declared.command.Course.{Course}
 use Rattle.c62_command.specs.declared.flight.FlightCourse.{FlightCourse}
 use Rattle.c62_command.specs.declared.setting.Setting.{Setting}
-use Rattle.c62_command.specs.declared.setting.Setting.TheVariants.{Byte, Dump, Half, Print, Register, Word}
+use Rattle.c62_command.specs.declared.setting.Setting.TheVariants.{Base, Byte, Dump, Half, Print, Register, Word}
 use Rattle.c62_answer.specs.declared.outcome.Outcome.{Outcome}
 use Rattle.c62_answer.specs.Run.{IsFlown, IsOpening, IsPacketReport, with_setting, with_settings}
 use Rattle.c62_answer.specs.Texts.{IsNoProgram, SaysProgram}
@@ -41,6 +43,7 @@ zero_at xs k zeros = either (cases_lt k (length xs))
 
 one_zero : (one other : Machine) → IsZero one → IsZero other → one ≡ other
 one_zero one other zero zero' = same_machine one other zero.sound zero'.sound (record {
+  base = zero.base ∙ sym zero'.base;
   words = λ reg.
       zero_at one.registers (index_of reg) zero.words ∙ sym (zero_at other.registers (index_of reg) zero'.words);
   bytes = λ address h. zero_at one.memory address zero.bytes ∙ sym (zero_at other.memory address zero'.bytes);
@@ -61,6 +64,7 @@ setting_keeps machine (Half address value) = refl
 setting_keeps machine (Word address value) = refl
 setting_keeps machine (Print print) = refl
 setting_keeps machine (Dump dump) = refl
+setting_keeps machine (Base base) = refl
 
 settings_keep : (settings : List Setting) (machine : Machine) → (with_settings settings machine).faults ≡ machine.faults
 settings_keep [] machine = refl
@@ -78,18 +82,19 @@ told_by : (Finds : Machine → List Fault → Type 0) (settings : List Setting) 
     → (tells : TellsRunBy Finds settings more) → IsOpening settings opening
     → (IsSound tells.opening → tells.opening.faults ≡ [] → tells.opening ≡ opening
     → (line : ℕ) → IsTrue (has_line line tells.faults) ↔ Contains final.faults line)
-    → TellsReported more final
-told_by Finds settings more opening final tells begin lines = record {
-  faults = tells.faults;
-  told = tells.told;
-  lines = lines tells.begin.sound (none_faulted settings tells.opening tells.begin)
-      (one_opening settings tells.opening opening tells.begin begin);
-}
+    → TellsReported opening.base more final
+told_by Finds settings more opening final tells begin lines =
+    let same : tells.opening ≡ opening = one_opening settings tells.opening opening tells.begin begin in
+    record {
+      faults = tells.faults;
+      told = tells.told ∙ ap (λ (machine : Machine). flat_map (fault_text machine.base) tells.faults) same;
+      lines = lines tells.begin.sound (none_faulted settings tells.opening tells.begin) same;
+    }
 
 pub told_lines : (program : List Serial) (settings : List Setting) (course : Course) (more : List ℕ)
     (opening final : Machine) (chain : Chain)
     → TellsRun program settings course more → IsOpening settings opening
-    → RunsProgram program opening course.blocks chain final → TellsReported more final
+    → RunsProgram program opening course.blocks chain final → TellsReported opening.base more final
 told_lines program settings course more opening final chain tells begin runs =
     told_by _ settings more opening final tells begin (λ sound none same.
     tells_lines program tells.opening course.blocks tells.faults chain final sound none tells.found
@@ -103,11 +108,12 @@ is_program text program message says none = rw says at none
 pub strict_lines : (program : List Serial) (settings : List Setting) (course : Course) (text more : List ℕ)
     (opening final : Machine) (chain : Chain)
     → course.strict ≡ true → TellsStrict settings course text more → SaysProgram text program
-    → IsOpening settings opening → RunsProgram program opening course.blocks chain final → TellsReported more final
+    → IsOpening settings opening → RunsProgram program opening course.blocks chain final
+    → TellsReported opening.base more final
 strict_lines program settings course text more opening final chain strict tells says begin runs =
     either (subst (λ b. TellsIf b (TellsProgram settings course text more) more) strict tells)
   where
-    either : TellsProgram settings course text more → TellsReported more final
+    either : TellsProgram settings course text more → TellsReported opening.base more final
     either (inl (other, is, told)) =
         told_lines program settings course more opening final chain
         (subst (λ p. TellsRun p settings course more) (one_program text other program is says) told) begin runs
@@ -116,7 +122,7 @@ strict_lines program settings course text more opening final chain strict tells 
 pub packet_lines : (packets : List Packed) (settings : List Setting) (course : Course) (outcome : Outcome)
     (answer more : List ℕ)
     → TellsPackets packets settings course more → (report : IsPacketReport packets settings course outcome answer)
-    → TellsReported more report.final
+    → TellsReported report.opening.base more report.final
 packet_lines packets settings course outcome answer more tells report =
     told_by _ settings more report.opening report.final tells report.begin (λ sound none same.
     tells_packet_lines packets tells.opening course.blocks tells.faults report.chain report.cycles report.final sound
@@ -127,7 +133,8 @@ packet_lines packets settings course outcome answer more tells report =
 pub flight_lines : (flying : FlightText) (labels : List (Name × ℕ)) (first : ℕ) (settings : List Setting)
     (course : FlightCourse) (outcome : Outcome) (answer more : List ℕ)
     → TellsFlight flying first settings course more
-    → (report : IsFlown flying labels first settings course outcome answer) → TellsReported more report.final
+    → (report : IsFlown flying labels first settings course outcome answer)
+    → TellsReported report.opening.base more report.final
 flight_lines flying labels first settings course outcome answer more tells report =
     told_by _ settings more report.opening report.final tells report.begin (λ sound none same.
     tells_flight_lines flying first course.cycles tells.opening tells.faults report.stop report.cycles report.final none

@@ -35,7 +35,7 @@ pub record TellsRunBy (Finds : Machine → List Fault → Type 0) (settings : Li
   pub begin : IsOpening settings opening
   pub faults : List Fault
   pub found : Finds opening faults
-  pub told : more ≡ flat_map fault_text faults
+  pub told : more ≡ flat_map (fault_text opening.base) faults
 
 -- of a program's serial run on this course
 abbrev pub TellsRun : List Serial → List Setting → Course → (more : List ℕ) → Type 0
@@ -93,7 +93,7 @@ TellsStrict settings course text more = TellsIf course.strict (TellsProgram sett
 
 -- What is told of the faults of what is asked of a text. Packets of a serial text leave what it leaves, so they have its faults.
 abbrev pub TellsFaults : Ask → (text more : List ℕ) → Type 0
-TellsFaults (SerialReport course settings) text more = TellsStrict settings course text more
+TellsFaults (SerialReport course settings apart) text more = TellsStrict settings course text more
 TellsFaults (PacketReport packing course settings) text more = TellsStrict settings course text more
 TellsFaults (StandingReport form course settings) text more = TellsIf course.strict (TellsStanding form settings course text more) more
 TellsFaults (FlightReport course from settings) text more = TellsIf course.strict (TellsCode from settings course text more) more
@@ -103,30 +103,35 @@ TellsFaults ask text more = more ≡ []
 
 -- ---- the law
 
--- What is told behind a report is a line for each of these faults, whose lines are those that the report names.
-pub record TellsReported (more : List ℕ) (final : Machine) : Type 0 where
+-- What is told behind a report, of memory that begins at a base, is a line for each of these faults, whose lines are those that
+-- the report names.
+pub record TellsReported (base : ℕ) (more : List ℕ) (final : Machine) : Type 0 where
   pub faults : List Fault
-  pub told : more ≡ flat_map fault_text faults
+  pub told : more ≡ flat_map (fault_text base) faults
   pub lines : (line : ℕ) → IsTrue (has_line line faults) ↔ Contains final.faults line
 
 -- so it is behind the report of a strict serial run
 abbrev pub TellsItsReport : List Setting → Course → Outcome → (text answer more : List ℕ) → Type 0
 TellsItsReport settings course outcome text answer more =
     course.strict ≡ true → TellsStrict settings course text more
-    → (report : IsSerialReport settings course outcome text answer) → TellsReported more report.reported.final
+    → (report : IsSerialReport settings course outcome text answer)
+    → TellsReported report.reported.opening.base more report.reported.final
 
 -- and of a strict run of packets of serial text
 abbrev pub TellsPackedReport : Packing → List Setting → Course → Outcome → (text answer more : List ℕ) → Type 0
 TellsPackedReport packing settings course outcome text answer more =
     course.strict ≡ true → TellsStrict settings course text more
-    → (report : IsRunReport packing settings course outcome text answer) → TellsReported more report.reported.reported.final
+    → (report : IsRunReport packing settings course outcome text answer)
+    → TellsReported report.reported.reported.opening.base more report.reported.reported.final
 
 -- so it is with what is told of packets as they stand, and their report
 abbrev pub TellsPacketReport : List Packed → List Setting → Course → Outcome → (answer more : List ℕ) → Type 0
 TellsPacketReport packets settings course outcome answer more =
-    TellsPackets packets settings course more → (report : IsPacketReport packets settings course outcome answer) → TellsReported more report.final
+    TellsPackets packets settings course more → (report : IsPacketReport packets settings course outcome answer)
+    → TellsReported report.opening.base more report.final
 
 -- and of packets in flight
 abbrev pub TellsFlightReport : FlightText → List (Name × ℕ) → (first : ℕ) → List Setting → FlightCourse → Outcome → (answer more : List ℕ) → Type 0
 TellsFlightReport flying labels first settings course outcome answer more =
-    TellsFlight flying first settings course more → (report : IsFlown flying labels first settings course outcome answer) → TellsReported more report.final
+    TellsFlight flying first settings course more → (report : IsFlown flying labels first settings course outcome answer)
+    → TellsReported report.opening.base more report.final

@@ -19,7 +19,7 @@ TeachesSerial name text more = IfErr (program_in text) (λ refusal. ExplainsRefu
 abbrev pub Teaches : Ask → (name listing text more : List ℕ) → Type 0
 Teaches (Listing packing) name listing text more = TeachesSerial name text more
 Teaches (Picture showing) name listing text more = TeachesSerial name text more
-Teaches (SerialReport blocks settings) name listing text more = TeachesSerial name text more
+Teaches (SerialReport blocks settings apart) name listing text more = TeachesSerial name text more
 Teaches (PacketReport packing blocks settings) name listing text more = TeachesSerial name text more
 Teaches (LoopListing verbose packing trips apart) name listing text more = TeachesSerial name text more
 Teaches (LoopPicture packing trips apart) name listing text more = TeachesSerial name text more

@@ -1,6 +1,6 @@
 -- What the words of `lint` ask for, and which words ask for explanations (docs/FAULTS.md) or for a strict run.
-use Rattle.std.specs.Prelude.{ℕ, ℤ, pos, int_le, unsigned_abs, Bool, false, ◌&&◌, ◌||◌, List, [], ◌∷◌, Option, Some, None, option_map, option_and_then, codes, if◌then◌else◌}
-use Rattle.std.specs.List.{flat_map, list_any}
+use Rattle.std.specs.Prelude.{ℕ, ℤ, pos, int_le, nat_eq, unsigned_abs, Bool, false, ◌&&◌, ◌||◌, List, [], ◌∷◌, Option, Some, None, option_map, option_and_then, codes, if◌then◌else◌}
+use Rattle.std.specs.List.{flat_map, list_any, starts_with}
 use Rattle.std.specs.Str.{bytes_eq}
 use Rattle.c62_token.specs.Number.{number_of}
 use Rattle.c62_teach.specs.declared.words.Kind.{Kind}
@@ -99,3 +99,17 @@ asks_strict words = list_any (λ word. bytes_eq word (codes "--strict")) words
 abbrev pub is_strict : List Text → Bool
 is_strict [] = false
 is_strict (command ∷ words) = makes_run command && asks_strict words
+
+-- ---- `--apart`
+
+-- `--apart`, or `--apart=REG,REG,..`
+abbrev pub names_apart : Text → Bool
+names_apart word = starts_with nat_eq word (codes "--apart")
+
+abbrev pub asks_apart : List Text → Bool
+asks_apart words = list_any names_apart words
+
+-- a serial run, and such a word behind it
+abbrev pub is_watched : List Text → Bool
+is_watched [] = false
+is_watched (command ∷ words) = bytes_eq command (codes "serial") && asks_apart words

@@ -28,9 +28,10 @@ fn run_told(alloc: Global, program: &Program, start: &Start) -> Result<Vec<u8>, 
     ensures { IfOk result (λ more. TellsRun program.now start.now.settings.items start.now.course more.items) }
 {
     let mut state = opening(alloc, &start.settings)?;
+    let base = state.base();
     let faults = faults_of(alloc, program, &mut state, start.course.blocks)?;
     let mut more = Vec::new(alloc);
-    push_faults(&mut more, alloc, &faults)?;
+    push_faults(&mut more, alloc, base, &faults)?;
     Ok(more)
 }
 
@@ -66,9 +67,10 @@ fn packets_told(alloc: Global, packets: &Packets, start: &Start) -> Result<Vec<u
     ensures { IfOk result (λ more. TellsPackets packets.now start.now.settings.items start.now.course more.items) }
 {
     let mut state = opening(alloc, &start.settings)?;
+    let base = state.base();
     let faults = faults_of_packets(alloc, packets, &mut state, start.course.blocks)?;
     let mut more = Vec::new(alloc);
-    push_faults(&mut more, alloc, &faults)?;
+    push_faults(&mut more, alloc, base, &faults)?;
     Ok(more)
 }
 
@@ -125,10 +127,11 @@ fn flight_told(alloc: Global, begun: &Begun, start: &FlightStart) -> Result<Vec<
     ensures { IfOk result (λ more. TellsFlight (text_of begun.now.rows) begun.now.first start.now.settings.items start.now.course more.items) }
 {
     let mut state = opening(alloc, &start.settings)?;
+    let base = state.base();
     let cycles = start.course.cycles;
     let faults = faults_of_flight(alloc, &begun.rows, begun.first, cycles, &mut state)?;
     let mut more = Vec::new(alloc);
-    push_faults(&mut more, alloc, &faults)?;
+    push_faults(&mut more, alloc, base, &faults)?;
     Ok(more)
 }
 
@@ -225,7 +228,7 @@ pub fn faults_told(alloc: Global, request: &Request, text: &[u8]) -> Result<Vec<
     ensures { IfOk result (λ more. TellsFaults (ask_of request.now) text.now more.items) }
 {
     match request {
-        Request::Run(_, start) | Request::Serial(start) => strict_told(alloc, start, text),
+        Request::Run(_, start) | Request::Serial(start, _) => strict_told(alloc, start, text),
         Request::Sim(form, start) => sim_told(alloc, *form, start, text),
         Request::Exec(start) => flying_told(alloc, start, text),
         _ => Ok(Vec::new(alloc)),

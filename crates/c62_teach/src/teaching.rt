@@ -55,7 +55,7 @@ pub fn taught(
 {
     let name = names.text.as_bytes();
     match request {
-        Request::Pack(_) | Request::Show(_) | Request::Run(_, _) | Request::Serial(_) => {
+        Request::Pack(_) | Request::Show(_) | Request::Run(_, _) | Request::Serial(_, _) => {
             serial_taught(alloc, name, text)
         }
         Request::PackLoops(_) | Request::ShowLoops(_) | Request::RunLoops(_, _) => {

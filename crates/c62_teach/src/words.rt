@@ -3,7 +3,7 @@
 ghost use Rattle.std.specs.Prelude.{◌≡◌, ◌≤◌, IfOk, IfSome, OnOk, ◌++◌, codes, map, string_bytes};
 ghost use Rattle.std.specs.List.{list_any};
 ghost use Rattle.std.specs.Str.{bytes_eq};
-ghost use Rattle.c62_teach.specs.Words.{asks_strict, behind_first, changed, explains, is_answered, is_explained, is_lint, kind_of, linting_by, linting_of, most_by, most_of, is_strict, plain_word, plain_words, makes_run};
+ghost use Rattle.c62_teach.specs.Words.{asks_apart, asks_strict, behind_first, changed, explains, is_answered, is_explained, is_lint, kind_of, linting_by, linting_of, most_by, most_of, is_strict, is_watched, names_apart, plain_word, plain_words, makes_run};
 
 use c62_token::number::number;
 use std::alloc::{AllocError, Global};
@@ -194,6 +194,31 @@ pub fn is_strict(words: &[String]) -> bool
     match words {
         [] => false,
         [command, rest @ ..] => makes_run(command.as_str()) && asks_strict(rest),
+    }
+}
+
+/// Whether a word names registers as apart.
+fn has_apart(words: &[String]) -> bool
+    ensures { result ≡ list_any (λ word. names_apart (string_bytes word)) words.now }
+{
+    words
+        .iter()
+        .any(|word| word.as_str().as_bytes().starts_with(b"--apart"))
+}
+
+fn asks_apart(words: &[String]) -> bool
+    ensures { result ≡ asks_apart (map string_bytes words.now) }
+{
+    has_apart(words)
+}
+
+/// Whether the words ask for a serial run whose accesses are looked at.
+pub fn is_watched(words: &[String]) -> bool
+    ensures { result ≡ is_watched (map string_bytes words.now) }
+{
+    match words {
+        [] => false,
+        [command, rest @ ..] => command.as_str() == "serial" && asks_apart(rest),
     }
 }
 

@@ -67,7 +67,7 @@ const LISTINGS: [(&[&str], &str); 26] = [
 ];
 
 /// The same for a run, and for what is done with packets.
-const RUNS: [(&[&str], &str); 53] = [
+const RUNS: [(&[&str], &str); 70] = [
     (&["run"], "run by workers, 0 ejections; 1000 blocks"),
     (
         &[
@@ -147,6 +147,31 @@ const RUNS: [(&[&str], &str); 53] = [
     (&["sim", "dump=8+4:h"], "setting 1"),
     (&["sim", "dump="], "setting 1"),
     (&["pack", "dump=8+4"], "words"),
+    // memory that begins elsewhere: addresses are judged by it wherever it stands, and settings hold places
+    (
+        &[
+            "sim",
+            "@0x80000010=1",
+            "base=0x80000000",
+            "print=0x80000010+4",
+        ],
+        "sim; 1000 blocks, @16 = 1, memory from 2147483648, 1 words at 16",
+    ),
+    (
+        &["exec", "base=4", "base=0xffff0000", "dump=0xffff0000+65536"],
+        "exec; 1000000 cycles, memory from 4, memory from 4294901760, 65536 bytes to a file from 0",
+    ),
+    (&["run", "A1=1", "@16=1", "base=0x80000000"], "setting 2"),
+    (&["run", "base=0x80000000", "@0x80010000=1"], "setting 2"),
+    (
+        &["serial", "base=0x80000000", "print=0x8000fffc+8"],
+        "setting 2",
+    ),
+    (&["serial", "base=2"], "setting 1"),
+    (&["serial", "base=-4"], "setting 1"),
+    (&["serial", "A1=1", "base=0xffff0004"], "setting 2"),
+    (&["serial", "base="], "setting 1"),
+    (&["pack", "base=4"], "words"),
     (&["exec", "--profile"], "exec; 1000000 cycles, profile"),
     (&["adopt"], "adopt"),
     (&["adopt", "--drain"], "adopt, drained"),
@@ -168,6 +193,17 @@ const RUNS: [(&[&str], &str); 53] = [
     (&["exec", "--packets"], "words"),
     (&["adopt", "--packets"], "words"),
     (&["serial", "A1=5", "x"], "setting 2"),
+    (
+        &["serial", "--apart", "A4,b15", "--blocks", "2", "B15=5"],
+        "serial; 2 blocks, B15 = 5; A4, B15",
+    ),
+    (&["serial", "--apart=B0"], "serial; 1000 blocks; B0"),
+    (&["serial", "--apart", "A4,A16"], "apart"),
+    // A promise is judged before the settings.
+    (&["serial", "A1=5", "x", "--apart", ""], "apart"),
+    (&["serial", "--apart", "A4,B4", "x"], "setting 1"),
+    (&["serial", "--apart"], "words"),
+    (&["sim", "--apart", "A4,B4"], "words"),
     (&["serial", "--blocks", "0"], "words"),
     (&["frob"], "words"),
 ];
@@ -314,6 +350,7 @@ fn setting_text(alloc: Global, setting: Setting) -> Result<String, Fail> {
         Setting::Word(address, value) => format!(in alloc; "@{address} = {value}")?,
         Setting::Print(print) => print_text(alloc, print)?,
         Setting::Dump(dump) => dump_text(alloc, dump)?,
+        Setting::Base(base) => format!(in alloc; "memory from {base}")?,
     })
 }
 
@@ -331,11 +368,11 @@ fn print_text(alloc: Global, print: Print) -> Result<String, Fail> {
         Size::Half => "halves",
         Size::Word => "words",
     };
-    Ok(format!(in alloc; "{} {signed}{size} at {}", print.count, print.address)?)
+    Ok(format!(in alloc; "{} {signed}{size} at {}", print.count, print.place)?)
 }
 
 fn dump_text(alloc: Global, dump: Dump) -> Result<String, Fail> {
-    Ok(format!(in alloc; "{} bytes to a file from {}", dump.count, dump.address)?)
+    Ok(format!(in alloc; "{} bytes to a file from {}", dump.count, dump.place)?)
 }
 
 fn settings_text(alloc: Global, settings: &[Setting]) -> Result<String, Fail> {
@@ -379,6 +416,15 @@ fn promises_text(alloc: Global, promises: &Promises) -> Result<String, Fail> {
     }
     for reg in &promises.apart {
         text.push_str(&format!(in alloc; ", {}", register_text(alloc, *reg)?)?)?;
+    }
+    Ok(text)
+}
+
+fn watched_text(alloc: Global, apart: &[Reg]) -> Result<String, Fail> {
+    let mut text = String::new(alloc);
+    for (index, reg) in apart.iter().enumerate() {
+        text.push_str(if index == 0 { "; " } else { ", " })?;
+        text.push_str(&register_text(alloc, *reg)?)?;
     }
     Ok(text)
 }
@@ -429,7 +475,10 @@ fn request_text(alloc: Global, request: &Request) -> Result<String, Fail> {
             packing_text(alloc, *packing)?,
             start_text(alloc, start)?
         )?,
-        Request::Serial(start) => format!(in alloc; "serial; {}", start_text(alloc, start)?)?,
+        Request::Serial(start, apart) => {
+            let start = start_text(alloc, start)?;
+            format!(in alloc; "serial; {start}{}", watched_text(alloc, apart)?)?
+        }
         Request::Sim(form, start) => {
             format!(in alloc; "sim{}; {}", form_text(*form), start_text(alloc, start)?)?
         }

@@ -32,6 +32,6 @@ returns c =
     let checked = c.in_ok-checked.checked in
     loops_told (map trips_of c.args.promises.now.trips.items) c.args.promises.now.apart.items c.args.input.now
     parts.text.now parts.listing.now checked.text.items c.in_ok-program.program c.in_ok-read.read checked.same
-    c.of_check.result c.in-Some.ensures c.in_ok-program.ensures
+    checked.plain c.of_check.result c.in-Some.ensures c.in_ok-program.ensures
     (sym (rw (c.blocks-2.ensures.same, c.deref.ensures.value) at c.in_default-first_loopless.ensures))
     c.in_ok-read.ensures c.in_ok-checked.ensures c.of_check.ensures

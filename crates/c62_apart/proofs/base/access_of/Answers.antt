@@ -12,4 +12,4 @@ returns-in-Transfer-clause-is c =
     let did = act_of-action c.args.entry.now.insn c.args.state.now.machine c.registers.result.now
     (Transfers c.in-Transfer.transfer) c.registers.ensures running
     (rw c.in-Transfer.is at c.in_ok-transfer.ensures.action) in
-    ap (λ (act : Act). act.access) (sym did)
+    rw c.placed.ensures (ap (λ (act : Act). act.access) (sym did))

@@ -26,6 +26,7 @@ returns c =
     let stands : c.are_all_rows-all.result ≡ are_all_rows starts (length blocks) c.len.result
     = rw (c.deref-6.ensures.value, c.blocks-blocks.ensures.same) at c.are_all_rows-all.ensures in
     loops_told (map trips_of promises.trips.items) promises.apart.items c.promise_of-promise.result loops starts blocks
-    rows c.len.result told c.in_ok-checked.checked.text.items c.in_ok-checked.checked.same c.are_all_rows-all.result
+    rows c.len.result told c.in_ok-checked.checked.text.items c.in_ok-checked.checked.same c.in_ok-checked.checked.plain
+    c.are_all_rows-all.result
     is (rw c.deref.ensures.value at c.promise_of-promise.ensures) counted stands c.in_ok-checked.ensures.text
-    c.in_ok-checked.ensures.same
+    c.in_ok-checked.ensures.same c.in_ok-checked.ensures.plain

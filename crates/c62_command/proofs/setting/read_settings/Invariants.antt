@@ -1,8 +1,8 @@
 use Rattle.std.proofs.Common.{◌≡◌, take, map, Some}
-use Rattle.c62_command.specs.Settings.{settings_of}
+use Rattle.c62_command.specs.Settings.{settings_from}
 use Rattle.c62_command.proofs.setting.read_settings.Given as goal
 
 abbrev pub invariant-loop-text : goal.invariant-loop-text
 invariant-loop-text l =
-    (settings_of (take l.text-index (map (λ text. text.now) l.texts)) ≡ Some l.settings.items)
+    (settings_from l.base (take l.text-index (map (λ text. text.now) l.texts)) ≡ Some l.settings.items)
     × (l.number ≡ l.text-index)

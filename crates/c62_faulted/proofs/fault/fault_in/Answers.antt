@@ -13,4 +13,4 @@ returns-in-Transfer c =
     let did = act_of-action c.args.entry.now.insn c.args.state.now.machine c.registers.result.now
     (Transfers c.in-Transfer.transfer) c.registers.ensures running
     (rw c.in-Transfer.is at c.in_ok-transfer.ensures.action) in
-    c.fault_by.ensures ∙ ap (λ (act : Act). fault_by c.args.entry.now act.access) (sym did)
+    (rw c.placed.ensures at c.fault_by.ensures) ∙ ap (λ (act : Act). fault_by c.args.entry.now act.access) (sym did)

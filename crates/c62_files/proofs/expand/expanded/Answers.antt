@@ -8,20 +8,22 @@ pub returns-clause-ok : goal.returns-clause-ok
 returns-clause-ok g c =
     let none : map text_piece (drop c.loop-piece.piece-index c.args.pieces.now) ≡ [] =
     ap (map text_piece) (drop_all c.loop-piece.piece-index c.args.pieces.now (search rules)) in
-    all_grown (g.F.Folder.holds c.args.folder.now) _ _ _ none c.loop-piece.invariant.0
+    rw c.begin_among-base.ensures at
+    (all_grown c.begin_among-base.result (g.F.Folder.holds c.args.folder.now) _ _ _ none c.loop-piece.invariant.0)
 
 pub returns-in-Err-clause-err : goal.returns-in-Err-clause-err
 returns-in-Err-clause-err g c =
     rw (c.numbered.ensures)
     (stopped_at (g.F.Folder.holds c.args.folder.now) c.args.pieces.now c.loop-piece.piece-index c.loop-piece.loads _ _ _
     (search rules) refl
-    c.loop-piece.invariant.1 c.in-Err.ensures.stopped)
+    c.loop-piece.invariant.1 (rw c.begin_among-base.ensures at c.in-Err.ensures.stopped))
 
 pub loop-piece-preserved : goal.loop-piece-preserved
 loop-piece-preserved g c =
     let given = c.in_default.ensures.ok in
     let now = c.loop-piece.invariant in (
-      grown_more (g.F.Folder.holds c.args.folder.now) (map text_piece c.args.pieces.now) c.args.pieces.now
+      grown_more c.begin_among-base.result (g.F.Folder.holds c.args.folder.now) (map text_piece c.args.pieces.now)
+          c.args.pieces.now
           c.loop-piece.piece-index _ _ _ given.0 _ (search rules)
           refl given.1 given.2 now.0,
       rw c.loads_with-loads.ensures

@@ -7,6 +7,6 @@ use Rattle.c62_files.proofs.expand.expanded.Given as goal
 
 abbrev pub invariant-loop-piece : goal.invariant-loop-piece
 invariant-loop-piece g l =
-    IsGrown (g.F.Folder.holds l.folder) (map text_piece l.pieces) (map string_bytes l.words.items)
+    IsGrown l.base (g.F.Folder.holds l.folder) (map text_piece l.pieces) (map string_bytes l.words.items)
     (map text_piece (drop l.piece-index l.pieces))
     × (l.loads ≡ count_by is_load (take l.piece-index (map text_piece l.pieces))) × (l.loads ≤ l.piece-index)

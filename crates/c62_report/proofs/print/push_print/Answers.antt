@@ -8,15 +8,15 @@ pub loop-left-preserved : goal.loop-left-preserved
 loop-left-preserved c =
     let some : 0 < c.loop-left.left = search rules in
     rw (
-      c.from-address.ensures,
+      c.from-place.ensures,
       c.in_ok-push_line.ensures,
       append_assoc c.loop-left.out.items
-          (print_line c.args.state.now.machine c.args.size c.args.signed c.loop-left.address)
+          (print_line c.args.state.now.machine c.args.size c.args.signed c.loop-left.place)
           (print_lines c.args.state.now.machine c.args.size c.args.signed (c.loop-left.left - 1)
-          ((c.loop-left.address + c.args.size) % 2 ^ 32)),
+          ((c.loop-left.place + c.args.size) % 2 ^ 32)),
     )
     (ap (λ xs. c.loop-left.out.items ++ xs)
-    (sym (first_line c.args.state.now.machine c.args.size c.args.signed c.loop-left.left c.loop-left.address some))
+    (sym (first_line c.args.state.now.machine c.args.size c.args.signed c.loop-left.left c.loop-left.place some))
     ∙ c.loop-left.invariant)
 
 pub returns : goal.returns
@@ -24,5 +24,5 @@ returns c =
     let none : c.loop-left.left ≡ 0 = search rules in
     sym (append-nil c.loop-left.out.items)
     ∙ ap (λ xs. c.loop-left.out.items ++ xs)
-    (sym (no_lines c.args.state.now.machine c.args.size c.args.signed c.loop-left.left c.loop-left.address none))
+    (sym (no_lines c.args.state.now.machine c.args.size c.args.signed c.loop-left.left c.loop-left.place none))
     ∙ c.loop-left.invariant

@@ -3,8 +3,8 @@ use Rattle.std.specs.Prelude.{fold}
 use Rattle.c62_pipe.specs.Flight.{stored}
 use Rattle.c62_pipe.proofs.pipe.Pipe.make_stores.Given as goal
 
-abbrev pub invariant-loop-address : goal.invariant-loop-address
-invariant-loop-address l = l.state ≡ record l.fn.state {
+abbrev pub invariant-loop-place : goal.invariant-loop-place
+invariant-loop-place l = l.state ≡ record l.fn.state {
   machine = record l.fn.state.machine
-      { memory = fold stored l.fn.state.machine.memory (take l.address-index l.address-items) };
+      { memory = fold stored l.fn.state.machine.memory (take l.place-index l.place-items) };
 }

@@ -7,6 +7,7 @@ use Rattle.c62_insn.specs.Action.{base_writes, base_values, load_writes}
 use Rattle.c62_insn.specs.Insn.{op_of}
 use Rattle.c62_op.specs.Shape.{delay_of}
 use Rattle.c62_serial.specs.State.{byte_in}
+use Rattle.c62_serial.specs.Memory.{placed_from}
 use Rattle.c62_serial.specs.Effect.{loaded}
 use Rattle.c62_pipe.specs.Flight.{Slot, Flight, due, with_write, with_writes, FitsSlots}
 use Rattle.c62_pipe.proofs.Slots.{room_for}
@@ -50,7 +51,8 @@ schedule-requires-clause-room c =
     subst (λ slots. length (due slots (c.args.cycle + 0)) < 40) same
     (room_for_base c.args.cycle c.args.placed.now.line (op_of c.args.placed.now.insn) c.args.transfer.base
     c.in-Some.base c.in-Some.word c.args.transfer.loads
-    (loaded (byte_in c.args.state.now.machine) (op_of c.args.placed.now.insn) (Some c.args.transfer.access))
+    (loaded (byte_in c.args.state.now.machine) (op_of c.args.placed.now.insn)
+    (placed_from c.args.state.now.machine.base (Some c.args.transfer.access)))
     c.args.self.now.slots c.in-Some.is c.requires.fits)
 
 ring : (c : goal.After-delay)
@@ -76,7 +78,8 @@ schedule-requires-2-clause-room c =
     (c.args.cycle + delay_of (op_of c.args.placed.now.insn))) < 40
     = room_for_load c.args.cycle c.args.placed.now.line (op_of c.args.placed.now.insn) c.args.transfer.base
     c.args.transfer.loads
-    (loaded (byte_in c.args.state.now.machine) (op_of c.args.placed.now.insn) (Some c.args.transfer.access))
+    (loaded (byte_in c.args.state.now.machine) (op_of c.args.placed.now.insn)
+    (placed_from c.args.state.now.machine.base (Some c.args.transfer.access)))
     c.in-Some-loads.reg c.in-Some-loaded.word c.args.self.now.slots c.in-Some-loads.is
     (sym c.access-loaded.ensures.loaded ∙ c.in-Some-loaded.is) c.requires.fits in
     rw (ring c, c.delay.ensures) fit

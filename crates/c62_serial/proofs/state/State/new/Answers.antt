@@ -8,6 +8,7 @@ zeros count bytes e = rw e (All-replicate (λ byte. byte ≡ 0) count 0 refl)
 
 pub returns : goal.returns
 returns c = record {
+  base = refl;
   sound = record { registers = refl; memory = search rules; rising = λ k h. absurd (omega arith) };
   words = All-replicate (λ word. word ≡ 0) 32 0 refl;
   bytes = zeros 65536 c.in_ok-vec.field-0.items (c.in_ok-vec.ensures.items_if_clones_equal (λ y h. h));
