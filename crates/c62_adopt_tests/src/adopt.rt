@@ -1,5 +1,6 @@
 //! Texts of packets and their listings, worked out by hand.
 
+use crate::expect::equal;
 use c62_adopt::{AdoptFault, adopt};
 use c62_listing::list;
 use std::alloc::{AllocError, Global};
@@ -251,6 +252,6 @@ fn cycles_mend_no_other_fault(rt: HostRuntime) -> Result<(), Fail> {
 fn memory_has_a_text(rt: HostRuntime) -> Result<(), Fail> {
     let fault = AdoptFault::Memory;
     let told = format!(in rt.alloc(); "{fault}")?;
-    assert_eq!(rt; told.as_str(), "memory");
+    equal(&rt, &told.as_str(), &"memory");
     Ok(())
 }

@@ -1,5 +1,6 @@
 //! Texts of packets, and where their instructions stand.
 
+use crate::expect::equal;
 use c62_adopt_cut::{Cut, Draft, Issue, TextFault, cycles_lacking, first_in_flight, read_cut};
 use c62_line::Label;
 use c62_read::MOST_BLOCKS;
@@ -175,7 +176,7 @@ const BLOCKS: [(&str, &str); 27] = [
 
 #[test]
 fn texts_have_their_blocks(rt: HostRuntime) -> Result<(), Fail> {
-    assert_eq!(rt; first_wrong(rt.alloc(), &BLOCKS)?, "");
+    equal(&rt, &first_wrong(rt.alloc(), &BLOCKS)?, &"");
     Ok(())
 }
 
@@ -230,7 +231,7 @@ const REFUSED: [(&str, &str); 29] = [
 
 #[test]
 fn faults_are_told_by_line(rt: HostRuntime) -> Result<(), Fail> {
-    assert_eq!(rt; first_wrong(rt.alloc(), &REFUSED)?, "");
+    equal(&rt, &first_wrong(rt.alloc(), &REFUSED)?, &"");
     Ok(())
 }
 
@@ -443,7 +444,7 @@ fn lacking_cycles_are_added(rt: HostRuntime) -> Result<(), Fail> {
         assert!(rt; cut.drafts.len() <= MOST_BLOCKS);
         let told = refused(rt.alloc(), &cut, true)?;
         assert!(rt; told.as_str() == *want, "{text} {told}");
-        assert_eq!(rt; cycles_lacking(&cut), *lacking);
+        equal(&rt, &cycles_lacking(&cut), lacking);
     }
     Ok(())
 }

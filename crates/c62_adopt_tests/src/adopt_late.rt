@@ -1,5 +1,6 @@
 //! Texts that draining changes, and texts that it doesn't.
 
+use crate::expect::equal;
 use c62_adopt_cut::read_cut;
 use c62_adopt_late::first_late;
 use c62_op::Side;
@@ -86,6 +87,6 @@ const TEXTS: [(&str, &str); 16] = [
 
 #[test]
 fn late_registers_are_told(rt: HostRuntime) -> Result<(), Fail> {
-    assert_eq!(rt; first_wrong(rt.alloc(), &TEXTS)?, "");
+    equal(&rt, &first_wrong(rt.alloc(), &TEXTS)?, &"");
     Ok(())
 }

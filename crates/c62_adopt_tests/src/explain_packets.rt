@@ -1,5 +1,6 @@
 //! Packets with a fault, and what is said of it: the rows of docs/FAULTS.md, "Packets".
 
+use crate::expect::equal_in;
 use c62_adopt::adopt;
 use c62_explain_packets::{Linted, explain, lint_listing, lint_packets, of_adopt};
 use std::alloc::Global;
@@ -10,7 +11,7 @@ use std::test::Fail;
 fn check_lines(rt: &impl Abort, text: &str, found: &[u8], want: &[&str]) -> Result<(), Fail> {
     let mut lines = str::from_utf8(found).unwrap_or("no text").lines();
     for line in want {
-        assert_eq!(rt; lines.next(), Some(*line), "{text}");
+        equal_in(rt, &text, &lines.next(), &Some(*line));
     }
     assert!(rt; lines.next().is_none(), "{text}");
     Ok(())
@@ -186,7 +187,7 @@ fn check_linted(
     faulty: bool,
     want: &[&str],
 ) -> Result<(), Fail> {
-    assert_eq!(rt; found.faulty, faulty, "{text}");
+    equal_in(rt, &text, &found.faulty, &faulty);
     check_lines(rt, text, &found.lines, want)
 }
 

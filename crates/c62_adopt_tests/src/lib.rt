@@ -13,6 +13,8 @@ mod adopt_late;
 #[cfg(test)]
 mod adopt_spell;
 #[cfg(test)]
+mod expect;
+#[cfg(test)]
 mod explain_packets;
 #[cfg(test)]
 mod reach;

@@ -1,5 +1,6 @@
 //! Runs over streams in memory.
 
+use crate::expect::equal;
 use c62_answer::run_on_bytes;
 use std::test::Fail;
 
@@ -312,9 +313,9 @@ const BAD_SETTINGS: [(&[&str], usize); 25] = [
 fn reports(rt: HostRuntime) -> Result<(), Fail> {
     for (words, text, report) in REPORTED.iter().chain(&RUN) {
         let ran = run_on_bytes(&rt, *words, text);
-        assert_eq!(rt; ran.errors.as_slice(), b"".as_slice());
-        assert_eq!(rt; ran.output.as_slice(), report.as_bytes());
-        assert_eq!(rt; ran.status, 0);
+        equal(&rt, &ran.errors.as_slice(), &b"".as_slice());
+        equal(&rt, &ran.output.as_slice(), &report.as_bytes());
+        equal(&rt, &ran.status, &0);
     }
     Ok(())
 }
@@ -352,7 +353,7 @@ const STRICT: [(&[&str], &[u8], u8); 9] = [
 fn strict_runs(rt: HostRuntime) -> Result<(), Fail> {
     for (words, text, status) in &STRICT {
         let ran = run_on_bytes(&rt, *words, text);
-        assert_eq!(rt; ran.status, *status);
+        equal(&rt, &ran.status, status);
         assert!(rt; ran.errors.is_empty());
         assert!(rt; ran.output.starts_with(b"blocks ") || ran.output.starts_with(b"cycles "));
     }
@@ -373,8 +374,8 @@ fn arms_of_a_condition(rt: HostRuntime) -> Result<(), Fail> {
             let report = format!(in rt.alloc();
                 "blocks 1\ncycles 1\nexit end\n{result}\nA3 00000005\nA4 00000003\n"
             )?;
-            assert_eq!(rt; ran.output.as_slice(), report.as_bytes());
-            assert_eq!(rt; ran.status, 0);
+            equal(&rt, &ran.output.as_slice(), &report.as_bytes());
+            equal(&rt, &ran.status, &0);
         }
     }
     Ok(())
@@ -386,11 +387,11 @@ fn accesses_apart_that_fault(rt: HostRuntime) -> Result<(), Fail> {
         let words = ["serial", "A1=9", "@0=7", *base];
         let ran = run_on_bytes(&rt, words.as_slice(), APART);
         let report = format!(in rt.alloc(); "blocks 1\nexit end\n{left}")?;
-        assert_eq!(rt; ran.output.as_slice(), report.as_bytes());
+        equal(&rt, &ran.output.as_slice(), &report.as_bytes());
         let words = ["run", "--turns", "A1=9", "@0=7", *base];
         let ran = run_on_bytes(&rt, words.as_slice(), APART);
         let report = format!(in rt.alloc(); "blocks 1\ncycles 5\nexit end\n{left}")?;
-        assert_eq!(rt; ran.output.as_slice(), report.as_bytes());
+        equal(&rt, &ran.output.as_slice(), &report.as_bytes());
     }
     Ok(())
 }
@@ -402,10 +403,10 @@ fn full_memory(rt: HostRuntime) -> Result<(), Fail> {
     let text = b"L: STW A1,*A4++\n SUB A2,1,A2\n [A2] B L\n";
     let ran = run_on_bytes(&rt, words.as_slice(), text);
     let head = b"blocks 16384\nexit end\nA1 00000001\nA4 00010000\n@0000 00000001\n";
-    assert_eq!(rt; ran.status, 0);
+    equal(&rt, &ran.status, &0);
     assert!(rt; ran.output.starts_with(head));
     assert!(rt; ran.output.ends_with(b"\n@fffc 00000001\n"));
-    assert_eq!(rt; ran.output.len(), 46 + 15 * 16_384);
+    equal(&rt, &ran.output.len(), &(46 + 15 * 16_384));
     Ok(())
 }
 
@@ -414,8 +415,8 @@ fn bad_settings(rt: HostRuntime) -> Result<(), Fail> {
     for (words, number) in &BAD_SETTINGS {
         let ran = run_on_bytes(&rt, *words, b"FOO");
         let expected = format!(in rt.alloc(); "setting {number}: bad\n")?;
-        assert_eq!(rt; ran.errors.as_slice(), expected.as_bytes());
-        assert_eq!(rt; ran.status, 2);
+        equal(&rt, &ran.errors.as_slice(), &expected.as_bytes());
+        equal(&rt, &ran.status, &2);
         assert!(rt; ran.output.is_empty());
     }
     Ok(())
@@ -425,8 +426,8 @@ fn bad_settings(rt: HostRuntime) -> Result<(), Fail> {
 fn refused_listings(rt: HostRuntime) -> Result<(), Fail> {
     for (text, expected) in &NO_LISTING {
         let ran = run_on_bytes(&rt, &["sim"], text);
-        assert_eq!(rt; ran.errors.as_slice(), expected.as_bytes());
-        assert_eq!(rt; ran.status, 1);
+        equal(&rt, &ran.errors.as_slice(), &expected.as_bytes());
+        equal(&rt, &ran.status, &1);
         assert!(rt; ran.output.is_empty());
     }
     Ok(())

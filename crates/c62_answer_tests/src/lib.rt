@@ -5,6 +5,8 @@
 #[cfg(test)]
 mod answer;
 #[cfg(test)]
+mod expect;
+#[cfg(test)]
 mod streams;
 #[cfg(test)]
 mod teach;

@@ -1,5 +1,6 @@
 //! Runs over streams that fail, break off or are slow.
 
+use crate::expect::equal;
 use c62_answer::run_tool;
 use std::io;
 use std::io::{Read, Write};
@@ -154,9 +155,9 @@ fn refused_words(rt: HostRuntime) -> Result<(), Fail> {
         let mut output = Vec::new(rt.alloc());
         let mut errors = Vec::new(rt.alloc());
         let status = run_tool(&rt, *words, &mut input, &mut output, &mut errors);
-        assert_eq!(rt; status, 2);
+        equal(&rt, &status, &2);
         assert!(rt; output.is_empty());
-        assert_eq!(rt; errors.last().copied(), Some(b'\n'));
+        equal(&rt, &errors.last().copied(), &Some(b'\n'));
     }
     Ok(())
 }
@@ -171,17 +172,21 @@ fn readers_that_fail(rt: HostRuntime) -> Result<(), Fail> {
         let mut output = Vec::new(rt.alloc());
         let mut errors = Vec::new(rt.alloc());
         let status = run_tool(&rt, &["pack"], &mut input, &mut output, &mut errors);
-        assert_eq!(rt; status, 4);
+        equal(&rt, &status, &4);
         assert!(rt; output.is_empty());
-        assert_eq!(rt; errors.as_slice(), b"input\n".as_slice());
+        equal(&rt, &errors.as_slice(), &b"input\n".as_slice());
     }
 
     let mut output = Vec::new(rt.alloc());
     let mut errors = Vec::new(rt.alloc());
     let status = run_tool(&rt, &["pack"], &mut Endless, &mut output, &mut errors);
-    assert_eq!(rt; status, 1);
+    equal(&rt, &status, &1);
     assert!(rt; output.is_empty());
-    assert_eq!(rt; errors.as_slice(), b"line 0: TextTooLong\n".as_slice());
+    equal(
+        &rt,
+        &errors.as_slice(),
+        &b"line 0: TextTooLong\n".as_slice(),
+    );
     Ok(())
 }
 
@@ -194,16 +199,16 @@ fn writers_that_fail(rt: HostRuntime) -> Result<(), Fail> {
             let mut errors = Vec::new(rt.alloc());
             let mut full = Full { writes, fails };
             let status = run_tool(&rt, &["pack"], &mut input, &mut full, &mut errors);
-            assert_eq!(rt; status, 4);
-            assert_eq!(rt; errors.as_slice(), b"output\n".as_slice());
+            equal(&rt, &status, &4);
+            equal(&rt, &errors.as_slice(), &b"output\n".as_slice());
         }
     }
 
     let mut input: &[u8] = b"MVK 5,A1\n";
     let mut errors = Vec::new(rt.alloc());
     let status = run_tool(&rt, &["pack"], &mut input, &mut Unflushed, &mut errors);
-    assert_eq!(rt; status, 4);
-    assert_eq!(rt; errors.as_slice(), b"output\n".as_slice());
+    equal(&rt, &status, &4);
+    equal(&rt, &errors.as_slice(), &b"output\n".as_slice());
 
     // A failure of the error stream changes no status.
     let rows: [(&[&str], u8); 2] = [(&["pack"], 1), (&["frob"], 2)];
@@ -215,7 +220,7 @@ fn writers_that_fail(rt: HostRuntime) -> Result<(), Fail> {
             fails: true,
         };
         let status = run_tool(&rt, *words, &mut input, &mut output, &mut errors);
-        assert_eq!(rt; status, *expected);
+        equal(&rt, &status, expected);
     }
     Ok(())
 }
@@ -261,7 +266,7 @@ fn told_byte_by_byte(rt: HostRuntime) -> Result<(), Fail> {
             interrupts: false,
         };
         run_tool(&rt, *words, &mut input, &mut output, &mut errors);
-        assert_eq!(rt; errors.taken.as_slice(), told.as_bytes());
+        equal(&rt, &errors.taken.as_slice(), &told.as_bytes());
     }
     Ok(())
 }

@@ -1,5 +1,6 @@
 //! What two workers make of blocks whose instructions are all of one side: whichever worker comes first, it is what turns make.
 
+use crate::expect::equal;
 use c62_answer::run_on_bytes;
 use std::process::Abort;
 use std::sync::Wait;
@@ -44,8 +45,8 @@ fn are_alike<H: AllocGlobal + Threads + Wait + Abort + Sync>(
 ) {
     let first = run_on_bytes(rt, by_workers, text.as_bytes());
     let second = run_on_bytes(rt, by_turns, text.as_bytes());
-    assert_eq!(rt; (first.status, second.status), (0, 0));
-    assert_eq!(rt; first.output.as_slice(), second.output.as_slice());
+    equal(rt, &(first.status, second.status), &(0, 0));
+    equal(rt, &first.output.as_slice(), &second.output.as_slice());
     assert!(rt; first.errors.is_empty());
 }
 
@@ -57,9 +58,10 @@ fn workers_do_the_work(rt: HostRuntime) -> Result<(), Fail> {
         are_alike(&rt, &["run"], &["run", "--turns"], text);
     }
     let ran = run_on_bytes(&rt, &["run"], MULTIPLIES.as_bytes());
-    assert_eq!(rt;
-        ran.output.as_slice(),
-        "blocks 1\ncycles 7\nexit end\n".as_bytes()
+    equal(
+        &rt,
+        &ran.output.as_slice(),
+        &"blocks 1\ncycles 7\nexit end\n".as_bytes(),
     );
     Ok(())
 }
@@ -67,7 +69,7 @@ fn workers_do_the_work(rt: HostRuntime) -> Result<(), Fail> {
 #[test]
 fn workers_eject(rt: HostRuntime) -> Result<(), Fail> {
     let ran = run_on_bytes(&rt, &["pack", "--eject", "1"], EJECTING.as_bytes());
-    assert_eq!(rt; ran.output.as_slice(), EJECTED.as_bytes());
+    equal(&rt, &ran.output.as_slice(), &EJECTED.as_bytes());
     are_alike(
         &rt,
         &["show", "--eject", "1"],

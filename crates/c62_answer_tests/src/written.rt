@@ -1,5 +1,6 @@
 //! Checks and runs of packets as they are written, worked out by docs/CHECK.md, docs/REPORT.md and docs/ADOPT.md.
 
+use crate::expect::equal;
 use c62_answer::run_on_bytes;
 use std::test::Fail;
 
@@ -151,9 +152,9 @@ const NOT_RUN: [(&[u8], &str); 4] = [
 fn packets_that_are_checked(rt: HostRuntime) -> Result<(), Fail> {
     for (input, told, status) in &CHECKED {
         let ran = run_on_bytes(&rt, &["check", "--packets"], input);
-        assert_eq!(rt; ran.output.as_slice(), told.as_bytes());
+        equal(&rt, &ran.output.as_slice(), &told.as_bytes());
         assert!(rt; ran.errors.is_empty());
-        assert_eq!(rt; ran.status, *status);
+        equal(&rt, &ran.status, status);
     }
     Ok(())
 }
@@ -162,9 +163,9 @@ fn packets_that_are_checked(rt: HostRuntime) -> Result<(), Fail> {
 fn packets_that_are_run(rt: HostRuntime) -> Result<(), Fail> {
     for (words, text, report, status) in &RUN {
         let ran = run_on_bytes(&rt, *words, text);
-        assert_eq!(rt; ran.output.as_slice(), report.as_bytes());
+        equal(&rt, &ran.output.as_slice(), &report.as_bytes());
         assert!(rt; ran.errors.is_empty());
-        assert_eq!(rt; ran.status, *status);
+        equal(&rt, &ran.status, status);
     }
     Ok(())
 }
@@ -173,14 +174,14 @@ fn packets_that_are_run(rt: HostRuntime) -> Result<(), Fail> {
 fn packets_that_are_refused(rt: HostRuntime) -> Result<(), Fail> {
     for (input, told) in &UNCHECKED {
         let ran = run_on_bytes(&rt, &["check", "--packets"], input);
-        assert_eq!(rt; ran.errors.as_slice(), told.as_bytes());
-        assert_eq!(rt; ran.status, 1);
+        equal(&rt, &ran.errors.as_slice(), &told.as_bytes());
+        equal(&rt, &ran.status, &1);
         assert!(rt; ran.output.is_empty());
     }
     for (text, told) in &NOT_RUN {
         let ran = run_on_bytes(&rt, &["sim", "--packets"], text);
-        assert_eq!(rt; ran.errors.as_slice(), told.as_bytes());
-        assert_eq!(rt; ran.status, 1);
+        equal(&rt, &ran.errors.as_slice(), &told.as_bytes());
+        equal(&rt, &ran.status, &1);
         assert!(rt; ran.output.is_empty());
     }
     Ok(())

@@ -1,5 +1,6 @@
 //! Worked blocks: steps, withdrawals, replays, proposals and refusals.
 
+use crate::expect::{equal, equal_in};
 use c62_board::{Board, CommitFault, PlaceFault, Proposal, ReplayFault, Turn, WithdrawFault};
 use c62_depend::Plan;
 use c62_insn::{Letter, Side, Unit};
@@ -127,7 +128,7 @@ const VICTIMS: [(&str, Turn); 3] = [
 /// The plan of the only block of a text.
 fn plan_of(rt: &impl Abort, alloc: Global, text: &str) -> Result<Plan, Fail> {
     let mut blocks = read_program(alloc, text.as_bytes())?.into_blocks();
-    assert_eq!(rt; blocks.len(), 1, "{text}");
+    equal_in(rt, &text, &blocks.len(), &1);
     let block = blocks.pop().expect(rt, "a block");
     match Plan::new(alloc, block) {
         Ok(plan) => Ok(plan),
@@ -191,11 +192,11 @@ fn placings_in_order(rt: HostRuntime) -> Result<(), Fail> {
             let Ok(spot) = place(&rt, &mut board, i) else {
                 return Err("an instruction found no room".into());
             };
-            assert_eq!(rt; spot.cycle, *cycle, "{text}");
+            equal_in(&rt, &text, &spot.cycle, cycle);
             i = i.wrapping_add(1);
         }
         assert!(rt; board.complete());
-        assert_eq!(rt; board.length(), *length, "{text}");
+        equal_in(&rt, &text, &board.length(), length);
     }
     Ok(())
 }
@@ -204,16 +205,16 @@ fn placings_in_order(rt: HostRuntime) -> Result<(), Fail> {
 fn turns_of_both_sides(rt: HostRuntime) -> Result<(), Fail> {
     let mut board = board_of(&rt, rt.alloc(), SIX, 1)?;
     for (k, want) in TURNS.iter().enumerate() {
-        assert_eq!(rt; board.step(side_of(k)), *want);
+        equal(&rt, &board.step(side_of(k)), want);
     }
     assert!(rt; board.journal() == &JOURNAL[..]);
-    assert_eq!(rt; board.budget(), 0);
+    equal(&rt, &board.budget(), &0);
     assert!(rt; board.complete());
-    assert_eq!(rt; board.length(), 5);
+    equal(&rt, &board.length(), &5);
     board.clear();
-    assert_eq!(rt; board.journal().len(), 0);
-    assert_eq!(rt; board.counts().placed_a, 0);
-    assert_eq!(rt; board.step(Side::A), TURNS[0]);
+    equal(&rt, &board.journal().len(), &0);
+    equal(&rt, &board.counts().placed_a, &0);
+    equal(&rt, &board.step(Side::A), &TURNS[0]);
     Ok(())
 }
 
@@ -221,7 +222,7 @@ fn turns_of_both_sides(rt: HostRuntime) -> Result<(), Fail> {
 fn takes_turns(rt: &impl Abort, board: &mut Board, from: usize, wanted: &[Turn]) {
     for k in 0..wanted.len() {
         assert!(rt; from < 100);
-        assert_eq!(rt; board.step(side_of(from + k)), wanted[k]);
+        equal(rt, &board.step(side_of(from + k)), &wanted[k]);
     }
 }
 
@@ -232,13 +233,14 @@ fn turns_are_told_ahead(rt: HostRuntime) -> Result<(), Fail> {
         let side = side_of(k);
         let before = board.journal().len();
         let (turn, entries) = board.ahead(side)?;
-        assert_eq!(rt;
-            (turn, board.journal().len(), board.budget()),
-            (*want, before, u16::from(k < 5))
+        equal(
+            &rt,
+            &(turn, board.journal().len(), board.budget()),
+            &(*want, before, u16::from(k < 5)),
         );
-        assert_eq!(rt; board.step(side), *want);
+        equal(&rt, &board.step(side), want);
         let added = board.journal().get(before..).unwrap_or_default();
-        assert_eq!(rt; added, entries.as_slice());
+        equal(&rt, &added, &entries.as_slice());
     }
     Ok(())
 }
@@ -251,15 +253,20 @@ fn a_long_ejection_is_told_ahead(rt: HostRuntime) -> Result<(), Fail> {
     }
     let before = board.journal().len();
     let (turn, entries) = board.ahead(Side::A)?;
-    assert_eq!(rt;
-        (turn, before),
-        (Turn::Ejected(4, 8, Spot { cycle: 0, unit: M1 }), 8)
+    equal(
+        &rt,
+        &(turn, before),
+        &(Turn::Ejected(4, 8, Spot { cycle: 0, unit: M1 }), 8),
     );
     let withdrawn = [7, 6, 5, 4].map(|i| Entry::Withdraw(i, Who::A));
-    assert_eq!(rt; entries.len(), 5);
-    assert_eq!(rt; entries.as_slice().get(..4), Some(&withdrawn[..]));
-    assert_eq!(rt; board.step(Side::A), turn);
-    assert_eq!(rt; board.journal().get(before..), Some(entries.as_slice()));
+    equal(&rt, &entries.len(), &5);
+    equal(&rt, &entries.as_slice().get(..4), &Some(&withdrawn[..]));
+    equal(&rt, &board.step(Side::A), &turn);
+    equal(
+        &rt,
+        &board.journal().get(before..),
+        &Some(entries.as_slice()),
+    );
     Ok(())
 }
 
@@ -267,8 +274,8 @@ fn a_long_ejection_is_told_ahead(rt: HostRuntime) -> Result<(), Fail> {
 fn two_ejections(rt: HostRuntime) -> Result<(), Fail> {
     let mut board = board_of(&rt, rt.alloc(), SEVEN, 2)?;
     takes_turns(&rt, &mut board, 0, &TWO_EJECTIONS);
-    assert_eq!(rt; board.budget(), 0);
-    assert_eq!(rt; board.length(), 6);
+    equal(&rt, &board.budget(), &0);
+    equal(&rt, &board.length(), &6);
     Ok(())
 }
 
@@ -277,8 +284,8 @@ fn one_ejection_of_two(rt: HostRuntime) -> Result<(), Fail> {
     let mut board = board_of(&rt, rt.alloc(), SEVEN, 1)?;
     takes_turns(&rt, &mut board, 0, &TWO_EJECTIONS[..4]);
     takes_turns(&rt, &mut board, 4, &ONE_EJECTION);
-    assert_eq!(rt; board.budget(), 0);
-    assert_eq!(rt; board.length(), 7);
+    equal(&rt, &board.budget(), &0);
+    equal(&rt, &board.length(), &7);
     Ok(())
 }
 
@@ -289,7 +296,7 @@ fn the_least_urgent_makes_way(rt: HostRuntime) -> Result<(), Fail> {
         for turn in 0..6 {
             let _ = board.step(side_of(turn));
         }
-        assert_eq!(rt; board.step(Side::A), *want, "{text}");
+        equal_in(&rt, &text, &board.step(Side::A), want);
     }
     Ok(())
 }
@@ -302,30 +309,35 @@ fn the_victim(rt: HostRuntime) -> Result<(), Fail> {
     let Some(least) = board.least(4) else {
         return Err("no room".into());
     };
-    assert_eq!(rt; least, Spot { cycle: 1, unit: M1 });
-    assert_eq!(rt; board.blocks_least(4), Some(2));
+    equal(&rt, &least, &Spot { cycle: 1, unit: M1 });
+    equal(&rt, &board.blocks_least(4), &Some(2));
     let mut board = board_of(&rt, rt.alloc(), "ADD A2,B1,A3\nMPY A5,B2,A2", 1)?;
-    assert_eq!(rt;
-        board.step(Side::A),
-        Turn::Placed(0, Spot { cycle: 0, unit: L1 })
+    equal(
+        &rt,
+        &board.step(Side::A),
+        &Turn::Placed(0, Spot { cycle: 0, unit: L1 }),
     );
     assert!(rt; board.plan().len() == 2);
     assert!(rt; board.ready(1));
     let Some(_) = board.least(1) else {
         return Err("no room".into());
     };
-    assert_eq!(rt; board.blocks_least(1), None);
+    equal(&rt, &board.blocks_least(1), &None);
     Ok(())
 }
 
 #[test]
 fn withdrawals(rt: HostRuntime) -> Result<(), Fail> {
     let mut board = after(&rt, rt.alloc(), 4)?;
-    assert_eq!(rt; withdraw(&rt, &mut board, 4), Err(WithdrawFault::NotPlaced));
-    assert_eq!(rt; board.journal().len(), 4);
-    assert_eq!(rt; withdraw(&rt, &mut board, 2), Ok(2));
+    equal(
+        &rt,
+        &withdraw(&rt, &mut board, 4),
+        &Err(WithdrawFault::NotPlaced),
+    );
+    equal(&rt, &board.journal().len(), &4);
+    equal(&rt, &withdraw(&rt, &mut board, 2), &Ok(2));
     assert!(rt; board.journal() == &JOURNAL[..6]);
-    assert_eq!(rt; board.counts().placed_a, 0);
+    equal(&rt, &board.counts().placed_a, &0);
     Ok(())
 }
 
@@ -337,14 +349,18 @@ fn a_chain_of_256(rt: HostRuntime) -> Result<(), Fail> {
     }
     let mut board = board_of(&rt, rt.alloc(), &text, 0)?;
     for i in 0..256 {
-        assert_eq!(rt; place(&rt, &mut board, i), Ok(Spot { cycle: i, unit: L1 }));
+        equal(
+            &rt,
+            &place(&rt, &mut board, i),
+            &Ok(Spot { cycle: i, unit: L1 }),
+        );
     }
     assert!(rt; board.complete());
-    assert_eq!(rt; board.length(), 256);
-    assert_eq!(rt; withdraw(&rt, &mut board, 1), Ok(255));
-    assert_eq!(rt; board.journal().len(), 511);
-    assert_eq!(rt; board.journal()[256], Entry::Withdraw(255, Who::A));
-    assert_eq!(rt; board.counts().placed_a, 1);
+    equal(&rt, &board.length(), &256);
+    equal(&rt, &withdraw(&rt, &mut board, 1), &Ok(255));
+    equal(&rt, &board.journal().len(), &511);
+    equal(&rt, &board.journal()[256], &Entry::Withdraw(255, Who::A));
+    equal(&rt, &board.counts().placed_a, &1);
     for i in 1..256 {
         let spot = Spot { cycle: i, unit: L1 };
         let proposal = Proposal {
@@ -352,18 +368,18 @@ fn a_chain_of_256(rt: HostRuntime) -> Result<(), Fail> {
             spot,
             seen: 0,
         };
-        assert_eq!(rt; board.commit(&proposal, Who::B), Ok(spot));
+        equal(&rt, &board.commit(&proposal, Who::B), &Ok(spot));
     }
     assert!(rt; board.complete());
-    assert_eq!(rt; board.length(), 256);
-    assert_eq!(rt; withdraw(&rt, &mut board, 0), Ok(256));
-    assert_eq!(rt; board.journal().len(), 1022);
-    assert_eq!(rt; board.counts().placed_a, 0);
+    equal(&rt, &board.length(), &256);
+    equal(&rt, &withdraw(&rt, &mut board, 0), &Ok(256));
+    equal(&rt, &board.journal().len(), &1022);
+    equal(&rt, &board.counts().placed_a, &0);
     let plan = plan_of(&rt, rt.alloc(), &text)?;
     let Ok(again) = Board::replay(rt.alloc(), plan, 0, board.journal()) else {
         return Err("the entries are legal".into());
     };
-    assert_eq!(rt; again.journal().len(), 1022);
+    equal(&rt, &again.journal().len(), &1022);
     Ok(())
 }
 
@@ -375,7 +391,7 @@ fn replays(rt: HostRuntime) -> Result<(), Fail> {
     };
     assert!(rt; board.complete());
     assert!(rt; board.journal() == &JOURNAL[..]);
-    assert_eq!(rt; board.budget(), 3);
+    equal(&rt, &board.budget(), &3);
     let mut exchanged = JOURNAL;
     exchanged[4] = JOURNAL[5];
     exchanged[5] = JOURNAL[4];
@@ -383,8 +399,8 @@ fn replays(rt: HostRuntime) -> Result<(), Fail> {
     let Err((plan, fault)) = Board::replay(rt.alloc(), plan, 3, &exchanged) else {
         return Err("an entry is not legal".into());
     };
-    assert_eq!(rt; fault, ReplayFault::BadEntry(4));
-    assert_eq!(rt; plan.len(), 6);
+    equal(&rt, &fault, &ReplayFault::BadEntry(4));
+    equal(&rt, &plan.len(), &6);
     Ok(())
 }
 
@@ -411,23 +427,41 @@ fn proposals(rt: HostRuntime) -> Result<(), Fail> {
         spot: Spot { cycle: 0, unit: D1 },
         seen: 0,
     };
-    assert_eq!(rt; board.commit(&none, Who::A), Err(CommitFault::NotReady));
-    assert_eq!(rt; board.commit(&later, Who::A), Err(CommitFault::Stale(0)));
-    assert_eq!(rt;
-        board.commit(&second, Who::B),
-        Ok(Spot { cycle: 0, unit: D2 })
+    equal(
+        &rt,
+        &board.commit(&none, Who::A),
+        &Err(CommitFault::NotReady),
     );
-    assert_eq!(rt; board.commit(&second, Who::B), Err(CommitFault::NotReady));
-    assert_eq!(rt; board.commit(&first, Who::A), Err(CommitFault::Stale(1)));
-    assert_eq!(rt; board.journal().len(), 1);
-    assert_eq!(rt;
-        board.commit(&later, Who::A),
-        Ok(Spot { cycle: 1, unit: D1 })
+    equal(
+        &rt,
+        &board.commit(&later, Who::A),
+        &Err(CommitFault::Stale(0)),
     );
-    assert_eq!(rt; board.length(), 6);
-    assert_eq!(rt; place(&rt, &mut board, 0), Err(PlaceFault::NotReady));
-    assert_eq!(rt; board.pick(Side::A), None);
-    assert_eq!(rt; board.budget(), 0);
+    equal(
+        &rt,
+        &board.commit(&second, Who::B),
+        &Ok(Spot { cycle: 0, unit: D2 }),
+    );
+    equal(
+        &rt,
+        &board.commit(&second, Who::B),
+        &Err(CommitFault::NotReady),
+    );
+    equal(
+        &rt,
+        &board.commit(&first, Who::A),
+        &Err(CommitFault::Stale(1)),
+    );
+    equal(&rt, &board.journal().len(), &1);
+    equal(
+        &rt,
+        &board.commit(&later, Who::A),
+        &Ok(Spot { cycle: 1, unit: D1 }),
+    );
+    equal(&rt, &board.length(), &6);
+    equal(&rt, &place(&rt, &mut board, 0), &Err(PlaceFault::NotReady));
+    equal(&rt, &board.pick(Side::A), &None);
+    equal(&rt, &board.budget(), &0);
     Ok(())
 }
 
@@ -435,7 +469,7 @@ fn proposals(rt: HostRuntime) -> Result<(), Fail> {
 fn a_refused_spot(rt: HostRuntime) -> Result<(), Fail> {
     let board = after(&rt, rt.alloc(), 2)?;
     assert!(rt; board.plan().len() == 6);
-    assert_eq!(rt; board.spot_of(2), Some(Spot { cycle: 0, unit: L1 }));
+    equal(&rt, &board.spot_of(2), &Some(Spot { cycle: 0, unit: L1 }));
     assert!(rt; board.check(4, Spot { cycle: 0, unit: M1 }).is_err());
     assert!(rt; board.check(3, Spot { cycle: 1, unit: L1 }).is_ok());
     Ok(())
@@ -481,7 +515,7 @@ fn step_again(rt: &impl Abort, board: &mut Board, side: Side) -> Turn {
     let before = look_at(rt, board);
     match board.step(side) {
         Turn::Memory => {
-            assert_eq!(rt; look_at(rt, board), before);
+            equal(rt, &look_at(rt, board), &before);
             board.step(side)
         }
         turn => turn,
@@ -499,7 +533,7 @@ fn ahead_again(
         Ok(told) => Ok(told),
         Err(_) => board.ahead(side),
     };
-    assert_eq!(rt; look_at(rt, board), before);
+    equal(rt, &look_at(rt, board), &before);
     answer
 }
 
@@ -510,7 +544,7 @@ fn room_again(rt: &impl Abort, board: &mut Board, entries: usize) -> Result<(), 
         Ok(()) => Ok(()),
         Err(_) => board.room(entries),
     };
-    assert_eq!(rt; look_at(rt, board), before);
+    equal(rt, &look_at(rt, board), &before);
     answer
 }
 
@@ -519,7 +553,7 @@ fn withdraw_again(rt: &impl Abort, board: &mut Board, i: u16) -> Result<u16, Wit
     let before = look_at(rt, board);
     match withdraw(rt, board, i) {
         Err(WithdrawFault::Memory) => {
-            assert_eq!(rt; look_at(rt, board), before);
+            equal(rt, &look_at(rt, board), &before);
             withdraw(rt, board, i)
         }
         answer => answer,
@@ -531,7 +565,7 @@ fn place_again(rt: &impl Abort, board: &mut Board, i: u16) -> Result<Spot, Place
     let before = look_at(rt, board);
     match place(rt, board, i) {
         Err(PlaceFault::Memory) => {
-            assert_eq!(rt; look_at(rt, board), before);
+            equal(rt, &look_at(rt, board), &before);
             place(rt, board, i)
         }
         answer => answer,
@@ -547,7 +581,7 @@ fn commit_again(
     let before = look_at(rt, board);
     match board.commit(proposal, Who::A) {
         Err(CommitFault::Memory) => {
-            assert_eq!(rt; look_at(rt, board), before);
+            equal(rt, &look_at(rt, board), &before);
             board.commit(proposal, Who::A)
         }
         answer => answer,
@@ -559,11 +593,11 @@ fn replay_again(rt: &impl Abort, alloc: Global, entries: &[Entry]) -> Result<Boa
     let plan = match Board::replay(alloc, plan_again(rt, alloc)?, 3, entries) {
         Ok(board) => return Ok(board),
         Err((plan, fault)) => {
-            assert_eq!(rt; fault, ReplayFault::Memory);
+            equal(rt, &fault, &ReplayFault::Memory);
             plan
         }
     };
-    assert_eq!(rt; plan.len(), 6);
+    equal(rt, &plan.len(), &6);
     match Board::replay(alloc, plan, 3, entries) {
         Ok(board) => Ok(board),
         Err((_, fault)) => Err(fault.into()),
@@ -576,7 +610,7 @@ fn board_again(rt: &impl Abort, alloc: Global) -> Result<Board, Fail> {
         Ok(board) => return Ok(board),
         Err((plan, _)) => plan,
     };
-    assert_eq!(rt; plan.len(), 6);
+    equal(rt, &plan.len(), &6);
     match Board::new(alloc, plan, 1) {
         Ok(board) => Ok(board),
         Err((_, error)) => Err(error.into()),
@@ -590,8 +624,8 @@ fn board_again(rt: &impl Abort, alloc: Global) -> Result<Board, Fail> {
 fn a_refused_growth_of_steps(rt: HostRuntime) -> Result<(), Fail> {
     let mut board = board_again(&rt, rt.alloc())?;
     for (k, want) in TURNS.iter().enumerate() {
-        assert_eq!(rt; ahead_again(&rt, &board, side_of(k))?.0, *want);
-        assert_eq!(rt; step_again(&rt, &mut board, side_of(k)), *want);
+        equal(&rt, &ahead_again(&rt, &board, side_of(k))?.0, want);
+        equal(&rt, &step_again(&rt, &mut board, side_of(k)), want);
     }
     assert!(rt; board.journal() == &JOURNAL[..]);
     Ok(())
@@ -602,7 +636,7 @@ fn a_refused_growth_of_room(rt: HostRuntime) -> Result<(), Fail> {
     let mut board = board_again(&rt, rt.alloc())?;
     room_again(&rt, &mut board, 10)?;
     for (k, want) in TURNS.iter().enumerate() {
-        assert_eq!(rt; board.step(side_of(k)), *want);
+        equal(&rt, &board.step(side_of(k)), want);
     }
     Ok(())
 }
@@ -610,7 +644,7 @@ fn a_refused_growth_of_room(rt: HostRuntime) -> Result<(), Fail> {
 #[test]
 fn a_refused_growth_of_a_withdrawal(rt: HostRuntime) -> Result<(), Fail> {
     let mut board = replay_again(&rt, rt.alloc(), &JOURNAL[..4])?;
-    assert_eq!(rt; withdraw_again(&rt, &mut board, 2), Ok(2));
+    equal(&rt, &withdraw_again(&rt, &mut board, 2), &Ok(2));
     assert!(rt; board.journal() == &JOURNAL[..6]);
     Ok(())
 }
@@ -619,7 +653,7 @@ fn a_refused_growth_of_a_withdrawal(rt: HostRuntime) -> Result<(), Fail> {
 fn a_refused_growth_of_a_placing(rt: HostRuntime) -> Result<(), Fail> {
     let mut board = board_again(&rt, rt.alloc())?;
     let first = Spot { cycle: 0, unit: L1 };
-    assert_eq!(rt; place_again(&rt, &mut board, 2), Ok(first));
+    equal(&rt, &place_again(&rt, &mut board, 2), &Ok(first));
     Ok(())
 }
 
@@ -631,7 +665,11 @@ fn a_refused_growth_of_a_proposal(rt: HostRuntime) -> Result<(), Fail> {
         spot: Spot { cycle: 0, unit: L1 },
         seen: 0,
     };
-    assert_eq!(rt; commit_again(&rt, &mut board, &proposal), Ok(proposal.spot));
+    equal(
+        &rt,
+        &commit_again(&rt, &mut board, &proposal),
+        &Ok(proposal.spot),
+    );
     assert!(rt; board.journal() == &JOURNAL[..1]);
     Ok(())
 }

@@ -1,5 +1,6 @@
 //! Packets of worked boards and spots.
 
+use crate::expect::{equal, equal_in};
 use c62_board::{Board, Spot, Who};
 use c62_depend::Plan;
 use c62_insn::{Letter, Reg, Side, Unit};
@@ -188,7 +189,7 @@ fn unit_name(unit: Unit) -> &'static str {
 fn packets_text(rt: &impl Abort, alloc: Global, block: &PacketBlock) -> Result<String, Fail> {
     let mut all = String::new(alloc);
     for placed in block.placed() {
-        assert_eq!(rt; placed.insn.unit(), Some(placed.unit));
+        equal(rt, &placed.insn.unit(), &Some(placed.unit));
         all.push_str(&format!(in alloc;
             "{}@{}.{} ",
             placed.line,
@@ -206,11 +207,12 @@ fn packets_of_boards(rt: HostRuntime) -> Result<(), Fail> {
         assert!(rt; board.complete());
         let block = packets_of(rt.alloc(), &board)?;
         let found = packets_text(&rt, rt.alloc(), &block)?;
-        assert_eq!(rt; found.as_str(), *packets, "{text}");
-        assert_eq!(rt; block.length(), *length, "{text}");
-        assert_eq!(rt;
-            block.label().is_some(),
-            board.plan().block().label().is_some()
+        equal_in(&rt, &text, &found.as_str(), packets);
+        equal_in(&rt, &text, &block.length(), length);
+        equal(
+            &rt,
+            &block.label().is_some(),
+            &board.plan().block().label().is_some(),
         );
     }
     Ok(())
@@ -229,17 +231,17 @@ fn packets_run_as_blocks(rt: HostRuntime) -> Result<(), Fail> {
             blocks: *blocks,
             stop: *stop,
         };
-        assert_eq!(rt; chain, want, "{text}");
-        assert_eq!(rt; taken, *cycles, "{text}");
+        equal_in(&rt, &text, &chain, &want);
+        equal_in(&rt, &text, &taken, cycles);
         for (side, number, word) in *left {
-            assert_eq!(rt; state.reg(register(*side, *number)), *word, "{text}");
+            equal_in(&rt, &text, &state.reg(register(*side, *number)), word);
         }
         let mut serial = opening(rt.alloc(), holds)?;
         let program = read_program(rt.alloc(), text.as_bytes())?;
-        assert_eq!(rt; run_program(&program, &mut serial, 9)?, chain, "{text}");
+        equal_in(&rt, &text, &run_program(&program, &mut serial, 9)?, &chain);
         assert!(rt; state.registers() == serial.registers(), "{text}");
         assert!(rt; state.faults() == serial.faults(), "{text}");
-        assert_eq!(rt; state.load(8, 4), serial.load(8, 4), "{text}");
+        equal_in(&rt, &text, &state.load(8, 4), &serial.load(8, 4));
     }
     Ok(())
 }
@@ -253,10 +255,10 @@ fn packets_at_spots(rt: HostRuntime) -> Result<(), Fail> {
         match (packets_at(rt.alloc(), &plan, &spots), want) {
             (Ok(block), Some((packets, length))) => {
                 let found = packets_text(&rt, rt.alloc(), &block)?;
-                assert_eq!(rt; found.as_str(), *packets);
-                assert_eq!(rt; block.length(), *length);
+                equal(&rt, &found.as_str(), packets);
+                equal(&rt, &block.length(), length);
             }
-            (Err(fault), None) => assert_eq!(rt; fault, AtFault::NotLawful),
+            (Err(fault), None) => equal(&rt, &fault, &AtFault::NotLawful),
             _ => return Err("another answer".into()),
         }
         assert!(rt;
@@ -276,7 +278,7 @@ fn faults_have_texts(rt: HostRuntime) -> Result<(), Fail> {
         (AtFault::Memory, "Memory"),
     ] {
         let told = format!(in rt.alloc(); "{fault}")?;
-        assert_eq!(rt; told.as_str(), text);
+        equal(&rt, &told.as_str(), &text);
     }
     Ok(())
 }
@@ -291,8 +293,8 @@ fn a_full_block(rt: HostRuntime) -> Result<(), Fail> {
     let board = board_of(&rt, rt.alloc(), block_of(&rt, rt.alloc(), &text)?)?;
     assert!(rt; board.complete());
     let block = packets_of(rt.alloc(), &board)?;
-    assert_eq!(rt; block.placed().len(), MOST_INSTRUCTIONS);
-    assert_eq!(rt; block.length(), 256);
+    equal(&rt, &block.placed().len(), &MOST_INSTRUCTIONS);
+    equal(&rt, &block.length(), &256);
     let mut spots = Vec::new(rt.alloc());
     for placed in block.placed() {
         spots.push(Spot {
@@ -303,7 +305,7 @@ fn a_full_block(rt: HostRuntime) -> Result<(), Fail> {
     let Ok(same) = packets_at(rt.alloc(), board.plan(), &spots) else {
         return Err("the spots are lawful".into());
     };
-    assert_eq!(rt; same.placed().len(), MOST_INSTRUCTIONS);
-    assert_eq!(rt; same.length(), 256);
+    equal(&rt, &same.placed().len(), &MOST_INSTRUCTIONS);
+    equal(&rt, &same.length(), &256);
     Ok(())
 }

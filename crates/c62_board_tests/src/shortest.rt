@@ -1,5 +1,6 @@
 //! Blocks that lists make shorter.
 
+use crate::expect::equal_in;
 use c62_board::{Board, PlaceFault, Spot, Who};
 use c62_depend::Plan;
 use c62_read::read_program;
@@ -42,7 +43,7 @@ fn place(rt: &impl Abort, board: &mut Board, i: u16) -> Result<Spot, PlaceFault>
 /// The board of the only block of a text, placed in the order of the text.
 fn board_of(rt: &impl Abort, alloc: Global, text: &str) -> Result<Board, Fail> {
     let mut blocks = read_program(alloc, text.as_bytes())?.into_blocks();
-    assert_eq!(rt; blocks.len(), 1, "{text}");
+    equal_in(rt, &text, &blocks.len(), &1);
     let block = blocks.pop().expect(rt, "a block");
     let plan = match Plan::new(alloc, block) {
         Ok(plan) => plan,
@@ -62,12 +63,12 @@ fn board_of(rt: &impl Abort, alloc: Global, text: &str) -> Result<Board, Fail> {
 fn lengths(rt: HostRuntime) -> Result<(), Fail> {
     for (text, serial, least) in &LENGTHS {
         let board = board_of(&rt, rt.alloc(), text)?;
-        assert_eq!(rt; board.length(), *serial, "{text}");
+        equal_in(&rt, &text, &board.length(), serial);
         assert!(rt; board.complete(), "{text}");
         let Schedule { spots, packets } = shortest(rt.alloc(), &board, 0)?.schedule;
-        assert_eq!(rt; packets.length(), *least, "{text}");
+        equal_in(&rt, &text, &packets.length(), least);
         let again = shortest(rt.alloc(), &board, 0)?.schedule;
-        assert_eq!(rt; again.spots.as_slice(), spots.as_slice(), "{text}");
+        equal_in(&rt, &text, &again.spots.as_slice(), &spots.as_slice());
     }
     Ok(())
 }

@@ -1,5 +1,6 @@
 //! Pictures of blocks without instructions, and their heads alone; those with instructions are shown from texts in a crate above.
 
+use crate::expect::equal;
 use c62_packet::PacketBlock;
 use c62_read::read_insn;
 use c62_show::{Shown, picture, summary};
@@ -29,9 +30,9 @@ fn blocks_without_instructions(rt: HostRuntime) -> Result<(), Fail> {
             })?;
         }
         let text = picture(rt.alloc(), &shown)?;
-        assert_eq!(rt; text.as_str(), *pictured);
+        equal(&rt, &text.as_str(), pictured);
         let text = summary(rt.alloc(), &shown)?;
-        assert_eq!(rt; text.as_str(), *heads);
+        equal(&rt, &text.as_str(), heads);
     }
     Ok(())
 }

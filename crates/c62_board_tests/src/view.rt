@@ -2,6 +2,7 @@
 
 ghost use Rattle.std.specs.Prelude.{◌≡◌, IfOk, IfSome};
 
+use crate::expect::equal;
 use c62_board::{Board, Entry, Spot, Turn, Who};
 use c62_depend::Plan;
 use c62_insn::{Letter, Side, Unit};
@@ -100,22 +101,23 @@ fn learns<R: Abort + Wait>(rt: &R, desk: &mut Desk, viewer: &mut Viewer) -> Resu
     requires { viewer.old.desk ≡ desk.old.name }
 {
     let first = proposal(0, at(0, Letter::S, Side::A), 0);
-    assert_eq!(rt;
-        (viewer.plan(Side::A), viewer.plan(Side::B)),
-        (Some(first), None)
+    equal(
+        rt,
+        &(viewer.plan(Side::A), viewer.plan(Side::B)),
+        &(Some(first), None),
     );
     let Some(told) = told_of(rt, desk, &first, Who::A) else {
         return Err("nothing was told".into());
     };
     viewer.learn(told);
     let second = proposal(1, at(1, Letter::S, Side::A), 1);
-    assert_eq!(rt; viewer.plan(Side::A), Some(second));
+    equal(rt, &viewer.plan(Side::A), &Some(second));
     let early = proposal(1, at(0, Letter::S, Side::A), 0);
     for (refused, fault) in [
         (first, CommitFault::NotReady),
         (early, CommitFault::Stale(1)),
     ] {
-        assert_eq!(rt; refusal(rt, desk, &refused, Who::A), Some(fault));
+        equal(rt, &refusal(rt, desk, &refused, Who::A), &Some(fault));
     }
     Ok(())
 }
@@ -126,7 +128,11 @@ fn a_viewer_learns(rt: HostRuntime) -> Result<(), Fail> {
     let outcome = learns(&rt, &mut desk, &mut first);
     desk.close(&rt);
     outcome?;
-    assert_eq!(rt; (first.plan(Side::A), second.plan(Side::A)), (None, None));
+    equal(
+        &rt,
+        &(first.plan(Side::A), second.plan(Side::A)),
+        &(None, None),
+    );
     Ok(())
 }
 
@@ -141,23 +147,25 @@ fn meet<R: Abort + Wait>(
 {
     let of_a = proposal(0, at(0, Letter::D, Side::A), 0);
     let of_b = proposal(1, at(0, Letter::D, Side::B), 0);
-    assert_eq!(rt;
-        (first.plan(Side::A), second.plan(Side::B)),
-        (Some(of_a), Some(of_b))
+    equal(
+        rt,
+        &(first.plan(Side::A), second.plan(Side::B)),
+        &(Some(of_a), Some(of_b)),
     );
     let Some(told) = told_of(rt, desk, &of_b, Who::B) else {
         return Err("nothing was told".into());
     };
-    assert_eq!(rt;
-        refusal(rt, desk, &of_a, Who::A),
-        Some(CommitFault::Stale(1))
+    equal(
+        rt,
+        &refusal(rt, desk, &of_a, Who::A),
+        &Some(CommitFault::Stale(1)),
     );
-    assert_eq!(rt; desk.board().journal().len(), 1);
+    equal(rt, &desk.board().journal().len(), &1);
     first.learn(told);
     let later = proposal(0, at(1, Letter::D, Side::A), 1);
-    assert_eq!(rt; first.plan(Side::A), Some(later));
-    assert_eq!(rt; refusal(rt, desk, &later, Who::A), None);
-    assert_eq!(rt; desk.board().length(), 6);
+    equal(rt, &first.plan(Side::A), &Some(later));
+    equal(rt, &refusal(rt, desk, &later, Who::A), &None);
+    equal(rt, &desk.board().length(), &6);
     Ok(())
 }
 
@@ -174,7 +182,7 @@ fn eject<R: Abort + Wait>(rt: &R, desk: &mut Desk, viewer: &mut Viewer) -> Resul
     requires { viewer.old.desk ≡ desk.old.name }
 {
     let held = proposal(2, at(0, Letter::L, Side::A), 0);
-    assert_eq!(rt; viewer.plan(Side::A), Some(held));
+    equal(rt, &viewer.plan(Side::A), &Some(held));
     desk.step(rt, Side::A);
     desk.step(rt, Side::B);
     desk.step(rt, Side::A);
@@ -183,17 +191,17 @@ fn eject<R: Abort + Wait>(rt: &R, desk: &mut Desk, viewer: &mut Viewer) -> Resul
     };
     viewer.learn(told);
     let late = proposal(4, at(1, Letter::M, Side::A), 4);
-    assert_eq!(rt; viewer.plan(Side::A), Some(late));
+    equal(rt, &viewer.plan(Side::A), &Some(late));
     let (turn, Some(told)) = desk.step(rt, Side::A) else {
         return Err("nothing was told".into());
     };
-    assert_eq!(rt; turn, Turn::Ejected(2, 4, at(0, Letter::M, Side::A)));
+    equal(rt, &turn, &Turn::Ejected(2, 4, at(0, Letter::M, Side::A)));
     for (refused, fault) in [(late, CommitFault::NotReady), (held, CommitFault::Stale(7))] {
-        assert_eq!(rt; refusal(rt, desk, &refused, Who::A), Some(fault));
+        equal(rt, &refusal(rt, desk, &refused, Who::A), &Some(fault));
     }
     viewer.learn(told);
     let again = proposal(2, at(1, Letter::L, Side::A), 7);
-    assert_eq!(rt; viewer.plan(Side::A), Some(again));
+    equal(rt, &viewer.plan(Side::A), &Some(again));
     Ok(())
 }
 
@@ -210,7 +218,7 @@ fn commit_again<R: Abort + Wait>(rt: &R, desk: &mut Desk, proposal: &Proposal) -
     let before = desk.board().journal().len();
     let answer = match desk.commit(rt, proposal, Who::A) {
         Err(CommitFault::Memory) => {
-            assert_eq!(rt; desk.board().journal().len(), before);
+            equal(rt, &desk.board().journal().len(), &before);
             desk.commit(rt, proposal, Who::A)
         }
         answer => answer,
@@ -223,7 +231,7 @@ fn step_again<R: Abort + Wait>(rt: &R, desk: &mut Desk, side: Side) -> Turn {
     let before = desk.board().journal().len();
     match desk.step(rt, side) {
         (Turn::Memory, _) => {
-            assert_eq!(rt; desk.board().journal().len(), before);
+            equal(rt, &desk.board().journal().len(), &before);
             desk.step(rt, side).0
         }
         (turn, _) => turn,
@@ -241,14 +249,18 @@ fn a_refused_growth_of_a_desk(rt: HostRuntime) -> Result<(), Fail> {
         *turn = step_again(&rt, &mut desk, side);
     }
     let board = desk.close(&rt);
-    assert_eq!(rt; placed, Some(first.spot));
-    assert_eq!(rt; turns[3], Turn::Ejected(2, 4, at(0, Letter::M, Side::A)));
+    equal(&rt, &placed, &Some(first.spot));
+    equal(
+        &rt,
+        &turns[3],
+        &Turn::Ejected(2, 4, at(0, Letter::M, Side::A)),
+    );
     let last = [
         Entry::Withdraw(3, Who::A),
         Entry::Withdraw(2, Who::A),
         Entry::Place(4, at(0, Letter::M, Side::A), Who::A),
     ];
     assert!(rt; board.journal().ends_with(&last));
-    assert_eq!(rt; board.journal().len(), 7);
+    equal(&rt, &board.journal().len(), &7);
     Ok(())
 }

@@ -1,5 +1,6 @@
 //! Texts and listings, and what is told of them.
 
+use crate::expect::equal;
 use c62_check::check;
 use c62_listing_reader::read_listing;
 use c62_read::read_program;
@@ -96,7 +97,7 @@ const SAME: [Row; 9] = [
 
 #[test]
 fn schedules_are_the_same(rt: HostRuntime) -> Result<(), Fail> {
-    assert_eq!(rt; first_wrong(rt.alloc(), &SAME)?.as_str(), "");
+    equal(&rt, &first_wrong(rt.alloc(), &SAME)?.as_str(), &"");
     Ok(())
 }
 
@@ -164,7 +165,7 @@ const EARLY: [Row; 11] = [
 
 #[test]
 fn what_comes_too_early(rt: HostRuntime) -> Result<(), Fail> {
-    assert_eq!(rt; first_wrong(rt.alloc(), &EARLY)?.as_str(), "");
+    equal(&rt, &first_wrong(rt.alloc(), &EARLY)?.as_str(), &"");
     Ok(())
 }
 
@@ -220,7 +221,7 @@ const OTHERS: [Row; 9] = [
 
 #[test]
 fn what_is_missing_or_too_much(rt: HostRuntime) -> Result<(), Fail> {
-    assert_eq!(rt; first_wrong(rt.alloc(), &OTHERS)?.as_str(), "");
+    equal(&rt, &first_wrong(rt.alloc(), &OTHERS)?.as_str(), &"");
     Ok(())
 }
 
@@ -260,6 +261,6 @@ const LABELS: [Row; 6] = [
 
 #[test]
 fn blocks_with_other_labels(rt: HostRuntime) -> Result<(), Fail> {
-    assert_eq!(rt; first_wrong(rt.alloc(), &LABELS)?.as_str(), "");
+    equal(&rt, &first_wrong(rt.alloc(), &LABELS)?.as_str(), &"");
     Ok(())
 }

@@ -1,5 +1,6 @@
 //! Texts, packets and promises, and what is told of them.
 
+use crate::expect::equal_in;
 use c62_check_loops::{check_loops, first_loopless};
 use c62_command::{Promises, read_trips};
 use c62_read::read_program;
@@ -558,7 +559,7 @@ fn are_told(rt: &impl Abort, alloc: Global, rows: &[Row]) -> Result<(), Fail> {
         let packets = laid(alloc, row.packets)?;
         let promises = promised(alloc, row.trips)?;
         let lines = told(alloc, row.text, &packets, &promises)?;
-        assert_eq!(rt; lines.as_str(), row.lines, "{packets}");
+        equal_in(rt, &packets, &lines.as_str(), &row.lines);
     }
     Ok(())
 }

@@ -1,5 +1,6 @@
 //! Blocks that belong to no loop, packets, and what is told of them.
 
+use crate::expect::equal_in;
 use c62_check_rest::{check_rest, push_rest, starts_of};
 use c62_read::read_program;
 use c62_rows::read_rows;
@@ -176,7 +177,7 @@ const ROWS: [Row; 22] = [
 fn blocks_are_told(rt: HostRuntime) -> Result<(), Fail> {
     for row in &ROWS {
         let lines = told(rt.alloc(), row.text, row.packets)?;
-        assert_eq!(rt; lines.as_str(), row.lines, "{}", row.packets);
+        equal_in(&rt, &row.packets, &lines.as_str(), &row.lines);
     }
     Ok(())
 }

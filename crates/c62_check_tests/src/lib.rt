@@ -9,6 +9,8 @@ mod check_loops;
 #[cfg(test)]
 mod check_rest;
 #[cfg(test)]
+mod expect;
+#[cfg(test)]
 mod pipeline;
 #[cfg(test)]
 mod standing;

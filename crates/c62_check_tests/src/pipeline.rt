@@ -1,5 +1,6 @@
 //! Programs and their own packets, and the packets that are written of them.
 
+use crate::expect::equal;
 use c62_command::{Promises, read_trips};
 use c62_listing_reader::read_listing;
 use c62_modulo::Shortness;
@@ -194,7 +195,7 @@ fn are_told(rt: &impl Abort, alloc: Global, rows: &[Row]) -> Result<(), Fail> {
         let promises = promised(alloc, row.trips)?;
         let told = told(alloc, row.text, row.listing, &promises)?;
         let expected = expected(alloc, row)?;
-        assert_eq!(rt; told.as_str(), expected.as_str());
+        equal(rt, &told.as_str(), &expected.as_str());
     }
     Ok(())
 }

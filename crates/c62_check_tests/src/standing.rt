@@ -1,5 +1,6 @@
 //! What is told of packets as they stand.
 
+use crate::expect::equal;
 use c62_listing_reader::read_listing;
 use c62_show::picture;
 use c62_standing::{Details, shown_as_they_stand};
@@ -125,7 +126,7 @@ cycle   .L1    .S1    .M1    .D1    .L2    .S2    .M2    .D2    1X   2X   T1   T
 
 #[test]
 fn packets_are_shown(rt: HostRuntime) -> Result<(), Fail> {
-    assert_eq!(rt; drawn(rt.alloc(), LISTED, ALL)?.as_str(), PICTURE);
-    assert_eq!(rt; drawn(rt.alloc(), "", ALL)?.as_str(), "");
+    equal(&rt, &drawn(rt.alloc(), LISTED, ALL)?.as_str(), &PICTURE);
+    equal(&rt, &drawn(rt.alloc(), "", ALL)?.as_str(), &"");
     Ok(())
 }

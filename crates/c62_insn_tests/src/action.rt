@@ -1,5 +1,6 @@
 //! What instructions do to registers and memory, by the tables of the processor's manual.
 
+use crate::expect::equal;
 use c62_insn::{Access, Action, Insn, Target, Transfer};
 use c62_op::{AddressForm, Cond, Offset, Op, Operands, Reg, Side};
 use std::process::Abort;
@@ -50,7 +51,7 @@ fn check(
     want: Option<Action>,
 ) -> Result<(), Fail> {
     let insn = Insn::new(op, operands, cond, None)?;
-    assert_eq!(rt; insn.action(&words()), want);
+    equal(rt, &insn.action(&words()), &want);
     Ok(())
 }
 

@@ -2,6 +2,7 @@
 
 mod table;
 
+use crate::expect::{equal, equal_in};
 use arrayvec::ArrayVec;
 use c62_insn::{Access, Effect, FormFault, Inputs, Insn, Target};
 use c62_op::{AddressForm, Cond, Letter, Offset, Op, Operands, Reg, Side, Unit};
@@ -122,7 +123,7 @@ fn effect(rt: &impl Abort, op: Op, operands: Operands, values: &[u32]) -> Result
         assert!(rt; !reads.is_full());
         reads.push(*value);
     }
-    assert_eq!(rt; reads.len(), insn.reads().len());
+    equal(rt, &reads.len(), &insn.reads().len());
     assert!(rt; insn.cond().is_none());
     Ok(insn.apply(&Inputs { cond: None, reads }))
 }
@@ -176,7 +177,7 @@ fn computes(rt: HostRuntime) -> Result<(), Fail> {
     ];
     for (op, operands, values, want) in rows {
         let effect = effect(&rt, op, operands, values)?;
-        assert_eq!(rt; effect.values.as_slice(), [want].as_slice(), "{op:?}");
+        equal_in(&rt, &op, &effect.values.as_slice(), &[want].as_slice());
     }
     Ok(())
 }
@@ -205,7 +206,7 @@ fn computes_at_the_edges(rt: HostRuntime) -> Result<(), Fail> {
     ];
     for (op, operands, values, want) in rows {
         let effect = effect(&rt, op, operands, values)?;
-        assert_eq!(rt; effect.values.as_slice(), [want].as_slice(), "{op:?}");
+        equal_in(&rt, &op, &effect.values.as_slice(), &[want].as_slice());
     }
     Ok(())
 }
@@ -228,8 +229,8 @@ fn forms_addresses(rt: HostRuntime) -> Result<(), Fail> {
             size: 4,
             value: None,
         };
-        assert_eq!(rt; load.access, Some(read), "{form:?}");
-        assert_eq!(rt; load.values.as_slice(), written, "{form:?}");
+        equal_in(&rt, &form, &load.access, &Some(read));
+        equal_in(&rt, &form, &load.values.as_slice(), &written);
 
         let by_register = access(B1, A4, form, Offset::Register(A2));
         let store = effect(&rt, Op::Sth, by_register, &[0x1234_5678, 0x100, 4])?;
@@ -238,8 +239,8 @@ fn forms_addresses(rt: HostRuntime) -> Result<(), Fail> {
             size: 2,
             value: Some(0x5678),
         };
-        assert_eq!(rt; store.access, Some(write), "{form:?}");
-        assert_eq!(rt; store.values.as_slice(), written, "{form:?}");
+        equal_in(&rt, &form, &store.access, &Some(write));
+        equal_in(&rt, &form, &store.values.as_slice(), &written);
     }
     let below = access(A1, A4, AddressForm::Minus, Offset::Constant(1));
     let wrapped = effect(&rt, Op::Ldb, below, &[0])?;
@@ -286,9 +287,9 @@ fn lists_reads_and_writes(rt: HostRuntime) -> Result<(), Fail> {
     ];
     for (op, operands, reads, writes, path) in rows {
         let insn = Insn::new(op, operands, None, None)?;
-        assert_eq!(rt; insn.reads().as_slice(), reads, "{op:?}");
-        assert_eq!(rt; insn.writes().as_slice(), writes, "{op:?}");
-        assert_eq!(rt; insn.data_path(), path, "{op:?}");
+        equal_in(&rt, &op, &insn.reads().as_slice(), &reads);
+        equal_in(&rt, &op, &insn.writes().as_slice(), &writes);
+        equal_in(&rt, &op, &insn.data_path(), &path);
     }
     Ok(())
 }
@@ -304,8 +305,8 @@ fn extends_what_was_loaded(rt: HostRuntime) -> Result<(), Fail> {
     ];
     for (op, raw, want) in rows {
         let load = Insn::new(op, WORD, None, None)?;
-        assert_eq!(rt; load.loaded(raw), want, "{op:?}");
-        assert_eq!(rt; load.delay(), 4, "{op:?}");
+        equal_in(&rt, &op, &load.loaded(raw), &want);
+        equal_in(&rt, &op, &load.delay(), &4);
     }
     Ok(())
 }
@@ -321,19 +322,19 @@ fn runs_on_its_condition(rt: HostRuntime) -> Result<(), Fail> {
     for (negated, value, want) in rows {
         let cond = Some(Cond { reg: B0, negated });
         let branch = Insn::new(Op::B, Operands::Block(3), cond, None)?;
-        assert_eq!(rt; branch.reads().len(), 0);
+        equal(&rt, &branch.reads().len(), &0);
         assert!(rt; branch.cond().is_some());
         let reads = ArrayVec::new();
         let effect = branch.apply(&Inputs {
             cond: Some(value),
             reads,
         });
-        assert_eq!(rt; effect.runs, want);
+        equal(&rt, &effect.runs, &want);
         let target = if want { Some(Target::Block(3)) } else { None };
-        assert_eq!(rt; effect.target, target);
+        equal(&rt, &effect.target, &target);
     }
     let jump = effect(&rt, Op::B, Operands::Register(B3), &[0x100])?;
-    assert_eq!(rt; jump.target, Some(Target::Register(0x100)));
+    equal(&rt, &jump.target, &Some(Target::Register(0x100)));
     Ok(())
 }
 
@@ -364,7 +365,7 @@ fn judges_constants(rt: HostRuntime) {
                 None,
                 unit,
             );
-            assert_eq!(rt; made.err(), want, "{constant} {unit:?}");
+            equal_in(&rt, &(constant, unit), &made.err(), &want);
         }
     }
     for (constant, wants) in subtract {
@@ -375,7 +376,7 @@ fn judges_constants(rt: HostRuntime) {
                 None,
                 unit,
             );
-            assert_eq!(rt; made.err(), want, "{constant} {unit:?}");
+            equal_in(&rt, &(constant, unit), &made.err(), &want);
         }
     }
 }
@@ -418,10 +419,11 @@ fn judges_sides(rt: HostRuntime) {
         (Op::Mpy, Operands::Two(A1, A2), None, no),
     ];
     for (op, operands, unit, want) in rows {
-        assert_eq!(rt;
-            Insn::new(op, operands, None, unit).err(),
-            want,
-            "{op:?} {operands:?}"
+        equal_in(
+            &rt,
+            &(op, operands),
+            &Insn::new(op, operands, None, unit).err(),
+            &want,
         );
     }
 }
@@ -445,10 +447,10 @@ fn judges_conditions(rt: HostRuntime) {
             negated: false,
         });
         let made = Insn::new(Op::Mvk, Operands::Constant(1, A1), cond, None);
-        assert_eq!(rt; made.err(), want, "{reg:?}");
+        equal_in(&rt, &reg, &made.err(), &want);
         let doubtful = Insn::new(Op::Mvk, Operands::Constant(99_999, A1), cond, None);
         let first = want.or(Some(FormFault::ConstantRange));
-        assert_eq!(rt; doubtful.err(), first, "{reg:?}");
+        equal_in(&rt, &reg, &doubtful.err(), &first);
     }
 }
 
@@ -464,10 +466,11 @@ fn finds_units(rt: HostRuntime) -> Result<(), Fail> {
     for (op, operands, wants) in rows {
         let insn = Insn::new(op, operands, None, None)?;
         for unit in Unit::ALL {
-            assert_eq!(rt;
-                insn.units().has(unit),
-                wants.contains(&unit),
-                "{op:?} {unit:?}"
+            equal_in(
+                &rt,
+                &(op, unit),
+                &insn.units().has(unit),
+                &wants.contains(&unit),
             );
         }
     }
@@ -488,7 +491,7 @@ fn names_faults(rt: HostRuntime) -> Result<(), Fail> {
     ];
     for (fault, name) in rows {
         let text = format!(in rt.alloc(); "{fault}")?;
-        assert_eq!(rt; text.as_str(), name);
+        equal(&rt, &text.as_str(), &name);
     }
     Ok(())
 }
@@ -505,17 +508,18 @@ fn stands_on_written_units(rt: HostRuntime) -> Result<(), Fail> {
         None,
     )?;
     for (unit, may) in [(L1, true), (S1, true), (D1, true), (M1, false), (L2, false)] {
-        assert_eq!(rt; sum.may_stand(unit), may, "{unit:?}");
+        equal_in(&rt, &unit, &sum.may_stand(unit), &may);
     }
     let written = sum.on_unit(S1);
-    assert_eq!(rt; written.unit(), Some(S1));
+    equal(&rt, &written.unit(), &Some(S1));
     assert!(rt; written.op() == Op::Add && written.operands().is_same(&THREE));
-    assert_eq!(rt;
-        written.cond(),
-        Some(Cond {
+    equal(
+        &rt,
+        &written.cond(),
+        &Some(Cond {
             reg: B0,
-            negated: true
-        })
+            negated: true,
+        }),
     );
     assert!(rt; written.may_stand(S1) && !written.may_stand(L1));
     Ok(())
@@ -529,6 +533,6 @@ fn registers_in_a_row(rt: HostRuntime) {
         (Side::B, 0, 16),
         (Side::B, 15, 31),
     ] {
-        assert_eq!(rt; Reg { side, number }.index(), index);
+        equal(&rt, &Reg { side, number }.index(), &index);
     }
 }

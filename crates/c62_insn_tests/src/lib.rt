@@ -5,4 +5,6 @@
 #[cfg(test)]
 mod action;
 #[cfg(test)]
+mod expect;
+#[cfg(test)]
 mod insn;

@@ -1,5 +1,6 @@
 //! Kernels of worked loops.
 
+use crate::expect::equal_in;
 use c62_kernels::{Fixed, Graph, OF_LOOPS, least_interval, schedule_of};
 use c62_pair::RegSet;
 use c62_read::read_program;
@@ -60,10 +61,11 @@ fn found(alloc: Global, text: &str) -> Result<Option<(u16, u16)>, AllocError> {
 #[test]
 fn kernels_are_found(rt: HostRuntime) -> Result<(), Fail> {
     for (text, interval, most) in &LOOPS {
-        assert_eq!(rt;
-            found(rt.alloc(), text)?,
-            Some((*interval, *most)),
-            "{text}"
+        equal_in(
+            &rt,
+            &text,
+            &found(rt.alloc(), text)?,
+            &Some((*interval, *most)),
         );
     }
     Ok(())

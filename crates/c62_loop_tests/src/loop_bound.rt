@@ -1,5 +1,6 @@
 //! Loops, and the least interval of any kernel.
 
+use crate::expect::equal_in;
 use c62_insn::Reg;
 use c62_loop_bound::least_interval;
 use c62_loop_match::{Promise, Region, is_counted_loop};
@@ -152,7 +153,12 @@ fn least_of(alloc: Global, row: &Row) -> Result<Option<u16>, AllocError> {
 #[test]
 fn intervals_are_told(rt: HostRuntime) -> Result<(), Fail> {
     for row in &ROWS {
-        assert_eq!(rt; least_of(rt.alloc(), row)?, Some(row.least), "{}", row.text);
+        equal_in(
+            &rt,
+            &row.text,
+            &least_of(rt.alloc(), row)?,
+            &Some(row.least),
+        );
     }
     Ok(())
 }

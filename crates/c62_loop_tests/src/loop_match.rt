@@ -1,5 +1,6 @@
 //! The loop that sums words, in packets of one cycle a word.
 
+use crate::expect::equal;
 use c62_insn::{Reg, Side};
 use c62_loop_match::{Control, Pipelined, Promise, Region, Schedule, Stage, decide};
 use c62_packet::Placed;
@@ -137,7 +138,7 @@ fn decided(alloc: Global, packets: &str, most: u8) -> Result<Option<bool>, Alloc
 #[test]
 fn sums_are_decided(rt: HostRuntime) -> Result<(), Fail> {
     let alloc = rt.alloc();
-    assert_eq!(rt; decided(alloc, PACKETS, 5)?, Some(true));
-    assert_eq!(rt; decided(alloc, PACKETS, 4)?, Some(false));
+    equal(&rt, &decided(alloc, PACKETS, 5)?, &Some(true));
+    equal(&rt, &decided(alloc, PACKETS, 4)?, &Some(false));
     Ok(())
 }

@@ -1,5 +1,6 @@
 //! A loop that is written.
 
+use crate::expect::equal;
 use c62_loop_match::Pipelined;
 use c62_loop_text::push_loop;
 use c62_read::read_program;
@@ -39,6 +40,6 @@ fn written(alloc: Global) -> Result<String, AllocError> {
 #[test]
 fn text_is_written_again(rt: HostRuntime) -> Result<(), Fail> {
     let out = written(rt.alloc())?;
-    assert_eq!(rt; out.as_str(), TEXT);
+    equal(&rt, &out.as_str(), &TEXT);
     Ok(())
 }

@@ -1,5 +1,6 @@
 //! Loops, and the cycles and stages of their packets.
 
+use crate::expect::equal_in;
 use c62_insn::Reg;
 use c62_loop_match::{Promise, Region};
 use c62_modulo::{Made, Shortness, Terms, pipelined};
@@ -199,7 +200,7 @@ fn loops_are_pipelined(rt: HostRuntime) -> Result<(), Fail> {
             )),
             None => None,
         };
-        assert_eq!(rt; found, expected, "{}", row.text);
+        equal_in(&rt, &row.text, &found, &expected);
     }
     Ok(())
 }

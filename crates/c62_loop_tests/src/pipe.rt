@@ -4,6 +4,7 @@ ghost use Rattle.std.specs.Prelude.{◌≡◌, ◌+◌, ◌≤◌, length, All, 
 ghost use Rattle.c62_insn.specs.Insn.{unit_of};
 ghost use Rattle.c62_packet.specs.Packed.{listing_position, IsInListingOrder, StandAsWritten};
 
+use crate::expect::{equal, equal_in};
 use c62_insn::Reg;
 use c62_insn::Side::{self, A, B};
 use c62_packet::{MOST_CYCLES, PacketBlock, Packets, Placed};
@@ -263,7 +264,7 @@ fn check_rows(rt: &impl Abort, alloc: Global, rows: &[&str]) -> Result<(), Fail>
         let Opening { mut state, limit } = Opening::new(rt, alloc, settings)?;
         let (chain, cycles) = run_chain(&packets, &mut state, limit)?;
         let found = report(alloc, chain, cycles, &state)?;
-        assert_eq!(rt; found.as_str(), want, "{row}");
+        equal_in(rt, &row, &found.as_str(), &want);
     }
     Ok(())
 }
@@ -291,8 +292,8 @@ fn runs_a_block(rt: HostRuntime) -> Result<(), Fail> {
     state.set(A5, 1);
     let _ = state.poke(8, 7);
     let (exit, cycles) = Pipe::run(&block, &mut state)?;
-    assert_eq!(rt; (exit, cycles), (Exit::Next, 5));
-    assert_eq!(rt; [state.reg(A5), state.reg(A6)], [7, 2]);
+    equal(&rt, &(exit, cycles), &(Exit::Next, 5));
+    equal(&rt, &[state.reg(A5), state.reg(A6)], &[7, 2]);
     Ok(())
 }
 
@@ -314,7 +315,7 @@ fn greatest_size(rt: HostRuntime) -> Result<(), Fail> {
     let mut packets = Packets::new(rt.alloc());
     for _ in 0..MOST_BLOCKS {
         let block = greatest_block(rt.alloc())?;
-        assert_eq!(rt; block.length(), MOST_CYCLES);
+        equal(&rt, &block.length(), &MOST_CYCLES);
         assert!(rt; packets.len() < MOST_BLOCKS);
         match packets.push(block) {
             Ok(()) => {}
@@ -326,15 +327,15 @@ fn greatest_size(rt: HostRuntime) -> Result<(), Fail> {
     let mut state = State::new(rt.alloc())?;
     state.set(A4, 1);
     let block = greatest_block(rt.alloc())?;
-    assert_eq!(rt; Pipe::run(&block, &mut state)?, (Exit::Next, 2_048));
+    equal(&rt, &Pipe::run(&block, &mut state)?, &(Exit::Next, 2_048));
     let (chain, cycles) = run_chain(&packets, &mut state, 1000)?;
     let want = Chain {
         blocks: 64,
         stop: End::End,
     };
-    assert_eq!(rt; chain, want);
-    assert_eq!(rt; cycles, 131_072);
-    assert_eq!(rt; state.faults().len(), MOST_INSTRUCTIONS);
+    equal(&rt, &chain, &want);
+    equal(&rt, &cycles, &131_072);
+    equal(&rt, &state.faults().len(), &MOST_INSTRUCTIONS);
     Ok(())
 }
 
@@ -351,5 +352,5 @@ fn want_of_memory(rt: HostRuntime) {
         Ok(_) => 1,
         Err(_) => 0,
     };
-    assert_eq!(rt; state.reg(A1), left);
+    equal(&rt, &state.reg(A1), &left);
 }

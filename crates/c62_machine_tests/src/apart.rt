@@ -1,5 +1,6 @@
 //! Runs whose accesses meet, worked out by docs/CHECK.md.
 
+use crate::expect::equal;
 use c62_apart::{meetings_of, push_loops};
 use c62_read::read_program;
 use c62_serial::State;
@@ -88,7 +89,7 @@ fn accesses_that_meet(rt: HostRuntime) -> Result<(), Fail> {
         let met = meetings_of(rt.alloc(), &program, &regs, &mut state, 20)?;
         let mut told = Vec::new(rt.alloc());
         push_loops(&mut told, rt.alloc(), 0, program.blocks(), &met)?;
-        assert_eq!(rt; told.as_slice(), want.as_bytes());
+        equal(&rt, &told.as_slice(), &want.as_bytes());
     }
     Ok(())
 }
@@ -124,7 +125,7 @@ fn bytes_are_told_by_their_addresses(rt: HostRuntime) -> Result<(), Fail> {
     ];
     for (address, want) in rows.iter() {
         let told = told_of(rt.alloc(), 0x8000_0000, *address)?;
-        assert_eq!(rt; told.as_slice(), want.as_bytes());
+        equal(&rt, &told.as_slice(), &want.as_bytes());
     }
     Ok(())
 }

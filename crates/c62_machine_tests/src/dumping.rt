@@ -1,5 +1,6 @@
 //! Answers that are parted.
 
+use crate::expect::equal;
 use c62_dumping::{files_of, parted};
 use std::test::Fail;
 
@@ -16,8 +17,8 @@ const PARTS: [(&[usize], &str, &str, &str); 5] = [
 fn answers_are_parted(rt: HostRuntime) -> Result<(), Fail> {
     for (counts, answer, report, dumped) in &PARTS {
         let parts = parted(answer.as_bytes(), counts);
-        assert_eq!(rt; parts.0, report.as_bytes());
-        assert_eq!(rt; parts.1, dumped.as_bytes());
+        equal(&rt, &parts.0, &report.as_bytes());
+        equal(&rt, &parts.1, &dumped.as_bytes());
     }
     Ok(())
 }
@@ -25,10 +26,10 @@ fn answers_are_parted(rt: HostRuntime) -> Result<(), Fail> {
 #[test]
 fn files_have_their_bytes(rt: HostRuntime) -> Result<(), Fail> {
     let files = files_of(rt.alloc(), &["a", "b", "c"], &[2, 1, 2], b"1234")?;
-    assert_eq!(rt; files.len(), 3);
+    equal(&rt, &files.len(), &3);
     for (file, (name, bytes)) in files.iter().zip([("a", "12"), ("b", "3"), ("c", "4")]) {
-        assert_eq!(rt; file.name, name);
-        assert_eq!(rt; file.bytes, bytes.as_bytes());
+        equal(&rt, &file.name, &name);
+        equal(&rt, &file.bytes, &bytes.as_bytes());
     }
     Ok(())
 }

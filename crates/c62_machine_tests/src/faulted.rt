@@ -1,5 +1,6 @@
 //! Runs whose accesses fault, worked out by docs/MACHINE.md.
 
+use crate::expect::equal;
 use c62_faulted::{faults_of, push_faults};
 use c62_read::read_program;
 use c62_serial::State;
@@ -46,7 +47,7 @@ fn faults_of_runs(rt: HostRuntime) -> Result<(), Fail> {
         let faults = faults_of(rt.alloc(), &program, &mut state, 20)?;
         let mut told = Vec::new(rt.alloc());
         push_faults(&mut told, rt.alloc(), 0, &faults)?;
-        assert_eq!(rt; told.as_slice(), want.as_bytes());
+        equal(&rt, &told.as_slice(), &want.as_bytes());
     }
     Ok(())
 }
@@ -69,7 +70,7 @@ fn faults_where_memory_begins_elsewhere(rt: HostRuntime) -> Result<(), Fail> {
         let faults = faults_of(rt.alloc(), &program, &mut state, 20)?;
         let mut told = Vec::new(rt.alloc());
         push_faults(&mut told, rt.alloc(), 0x8000_0000, &faults)?;
-        assert_eq!(rt; told.as_slice(), want.as_bytes());
+        equal(&rt, &told.as_slice(), &want.as_bytes());
     }
     Ok(())
 }

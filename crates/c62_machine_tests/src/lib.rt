@@ -7,6 +7,8 @@ mod apart;
 #[cfg(test)]
 mod dumping;
 #[cfg(test)]
+mod expect;
+#[cfg(test)]
 mod faulted;
 #[cfg(test)]
 mod printing;

@@ -1,5 +1,6 @@
 //! Values that settings ask for, by the rules of docs/REPORT.md.
 
+use crate::expect::equal;
 use c62_command::{Dump, Print, Setting, Size};
 use c62_printing::{push_dumps, push_prints};
 use c62_serial::State;
@@ -71,7 +72,7 @@ fn values_are_printed(rt: HostRuntime) -> Result<(), Fail> {
     for (print, lines) in &PRINTED {
         let mut out = Vec::new(rt.alloc());
         push_prints(&mut out, &state, &[Setting::Print(*print)])?;
-        assert_eq!(rt; out.as_slice(), lines.as_bytes());
+        equal(&rt, &out.as_slice(), &lines.as_bytes());
     }
     Ok(())
 }
@@ -105,6 +106,6 @@ fn bytes_are_dumped(rt: HostRuntime) -> Result<(), Fail> {
         }),
     ];
     push_dumps(&mut out, &state, &settings)?;
-    assert_eq!(rt; out.as_slice(), b"\x00\x01\x80\xff\xff".as_slice());
+    equal(&rt, &out.as_slice(), &b"\x00\x01\x80\xff\xff".as_slice());
     Ok(())
 }

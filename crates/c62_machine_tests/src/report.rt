@@ -1,5 +1,6 @@
 //! Worked reports, by the rules of docs/REPORT.md.
 
+use crate::expect::equal;
 use c62_flight::Stop;
 use c62_insn::{Reg, Side};
 use c62_report::{flight_report, packet_report, serial_report};
@@ -68,10 +69,10 @@ fn reports(rt: HostRuntime) -> Result<(), Fail> {
         let chain = Chain { blocks: 12, stop };
         let report = serial_report(alloc, chain, &state)?;
         let want = format!(in alloc; "blocks 12\n{exit}\n{HELD}")?;
-        assert_eq!(rt; report.as_slice(), want.as_bytes());
+        equal(&rt, &report.as_slice(), &want.as_bytes());
         let report = packet_report(alloc, chain, 131_072_000, &state)?;
         let want = format!(in alloc; "blocks 12\ncycles 131072000\n{exit}\n{HELD}")?;
-        assert_eq!(rt; report.as_slice(), want.as_bytes());
+        equal(&rt, &report.as_slice(), &want.as_bytes());
     }
     Ok(())
 }
@@ -87,9 +88,10 @@ fn a_report_of_memory_that_begins_elsewhere(rt: HostRuntime) -> Result<(), Fail>
         stop: End::End,
     };
     let report = serial_report(rt.alloc(), chain, &state)?;
-    assert_eq!(rt;
-        report.as_slice(),
-        b"blocks 0\nexit end\n@8000fffc 00000100\n".as_slice()
+    equal(
+        &rt,
+        &report.as_slice(),
+        &b"blocks 0\nexit end\n@8000fffc 00000100\n".as_slice(),
     );
     Ok(())
 }
@@ -101,7 +103,7 @@ fn reports_of_flights(rt: HostRuntime) -> Result<(), Fail> {
     for (stop, exit) in STOPS {
         let report = flight_report(alloc, stop, 57, &state)?;
         let want = format!(in alloc; "cycles 57\n{exit}\n{HELD}")?;
-        assert_eq!(rt; report.as_slice(), want.as_bytes());
+        equal(&rt, &report.as_slice(), &want.as_bytes());
     }
     Ok(())
 }
@@ -114,11 +116,12 @@ fn a_report_of_zeros(rt: HostRuntime) -> Result<(), Fail> {
     };
     let state = State::new(rt.alloc())?;
     let report = serial_report(rt.alloc(), chain, &state)?;
-    assert_eq!(rt; report.as_slice(), b"blocks 0\nexit end\n".as_slice());
+    equal(&rt, &report.as_slice(), &b"blocks 0\nexit end\n".as_slice());
     let report = packet_report(rt.alloc(), chain, 0, &state)?;
-    assert_eq!(rt;
-        report.as_slice(),
-        b"blocks 0\ncycles 0\nexit end\n".as_slice()
+    equal(
+        &rt,
+        &report.as_slice(),
+        &b"blocks 0\ncycles 0\nexit end\n".as_slice(),
     );
     Ok(())
 }

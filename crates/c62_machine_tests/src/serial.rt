@@ -1,5 +1,6 @@
 //! Worked rows, whose answers come from the processor's manual.
 
+use crate::expect::{equal, equal_in};
 use c62_insn::Side::{self, A, B};
 use c62_insn::{AddressForm, Insn, Offset, Op, Operands, Reg};
 use c62_read::{Program, ReadFault, read_program};
@@ -161,7 +162,7 @@ fn check_rows(rt: &impl Abort, alloc: Global, rows: &[&str]) -> Result<(), Fail>
         let Opening { mut state, limit } = Opening::new(rt, alloc, settings)?;
         let chain = run_program(&program, &mut state, limit)?;
         let found = report(alloc, chain, &state)?;
-        assert_eq!(rt; found.as_str(), want, "{row}");
+        equal_in(rt, &row, &found.as_str(), &want);
     }
     Ok(())
 }
@@ -192,10 +193,11 @@ fn calls_of_a_state(rt: HostRuntime) -> Result<(), Fail> {
         (65_536, 1, false),
     ];
     for (address, size, want) in stores {
-        assert_eq!(&rt;
-            state.store(address, size, 0x1234_5678),
-            want,
-            "at {address}"
+        equal_in(
+            &rt,
+            &address,
+            &state.store(address, size, 0x1234_5678),
+            &want,
         );
     }
     for (address, want) in [
@@ -206,10 +208,10 @@ fn calls_of_a_state(rt: HostRuntime) -> Result<(), Fail> {
         (11, 0x56),
         (12, 0),
     ] {
-        assert_eq!(&rt; state.byte(address), want, "at {address}");
+        equal_in(&rt, &address, &state.byte(address), &want);
     }
     for (address, size, want) in [(9, 1, Some(0x56)), (8, 4, Some(0x5678_5678)), (10, 4, None)] {
-        assert_eq!(&rt; state.load(address, size), want, "at {address}");
+        equal_in(&rt, &address, &state.load(address, size), &want);
     }
     for line in [7, 3, 9, 3, 7, 263, 7, 263] {
         state.room(1)?;
@@ -233,16 +235,17 @@ fn memory_that_begins_elsewhere(rt: HostRuntime) -> Result<(), Fail> {
         (8, 4, false),
     ];
     for (address, size, want) in stores {
-        assert_eq!(&rt;
-            state.store(address, size, 0x1234_5678),
-            want,
-            "at {address}"
+        equal_in(
+            &rt,
+            &address,
+            &state.store(address, size, 0x1234_5678),
+            &want,
         );
     }
-    assert_eq!(&rt; state.byte(8), 0x78);
-    assert_eq!(&rt; state.load(0x8000_000a, 2), Some(0x1234));
-    assert_eq!(&rt; state.load(8, 4), None);
-    assert_eq!(rt; state.base(), 0x8000_0000);
+    equal(&rt, &state.byte(8), &0x78);
+    equal(&rt, &state.load(0x8000_000a, 2), &Some(0x1234));
+    equal(&rt, &state.load(8, 4), &None);
+    equal(&rt, &state.base(), &0x8000_0000);
     Ok(())
 }
 
@@ -273,7 +276,7 @@ fn calls_of_instructions(rt: HostRuntime) -> Result<(), Fail> {
     for (op, at, size, want) in rows {
         let insn = Insn::new(op, address, None, None)?;
         state.room(1)?;
-        assert_eq!(&rt; state.make_load(insn, 1, at, size), want, "at {at}");
+        equal_in(&rt, &at, &state.make_load(insn, 1, at, size), &want);
     }
     assert!(&rt; state.faults() == [1, 2].as_slice());
     Ok(())
@@ -297,8 +300,8 @@ fn greatest_size(rt: HostRuntime) -> Result<(), Fail> {
         blocks: 64,
         stop: End::End,
     };
-    assert_eq!(&rt; run_program(&program, &mut state, 1000)?, want);
-    assert_eq!(&rt; state.faults().len(), 64 * 256);
+    equal(&rt, &run_program(&program, &mut state, 1000)?, &want);
+    equal(&rt, &state.faults().len(), &(64 * 256));
     Ok(())
 }
 
@@ -326,7 +329,7 @@ fn want_of_memory(rt: HostRuntime) {
         return;
     };
     if state.room(3).is_err() {
-        assert_eq!(&rt; [state.reg(A4), state.reg(A5)], [0, 0]);
+        equal(&rt, &[state.reg(A4), state.reg(A5)], &[0, 0]);
     }
     let Some(first) = program.blocks().first() else {
         return;
@@ -335,10 +338,10 @@ fn want_of_memory(rt: HostRuntime) {
         Ok(_) => 2,
         Err(_) => 0,
     };
-    assert_eq!(&rt; [state.reg(A4), state.reg(A5)], [left, 0]);
+    equal(&rt, &[state.reg(A4), state.reg(A5)], &[left, 0]);
     let loaded = match run_program(&program, &mut state, 9) {
         Ok(_) => 3,
         Err(_) => 0,
     };
-    assert_eq!(&rt; [state.reg(A4), state.reg(A5)], [2, loaded]);
+    equal(&rt, &[state.reg(A4), state.reg(A5)], &[2, loaded]);
 }

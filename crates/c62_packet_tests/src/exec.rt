@@ -1,5 +1,6 @@
 //! Small texts of packets in flight, whose answers come from the processor's manual.
 
+use crate::expect::{equal, equal_in};
 use c62_exec::{Count, Flown, fly, fly_counted, is_issuable};
 use c62_flight::Stop;
 use c62_insn::Reg;
@@ -262,7 +263,7 @@ fn check_rows(rt: &impl Abort, alloc: Global, rows: &[&str]) -> Result<(), Fail>
         let Opening { mut state, limit } = Opening::new(rt, alloc, settings)?;
         let flown = fly(alloc, &rows, 0, limit, &mut state)?;
         let found = report(alloc, flown, &state)?;
-        assert_eq!(rt; found.as_str(), want, "{row}");
+        equal_in(rt, &row, &found.as_str(), &want);
     }
     Ok(())
 }
@@ -302,7 +303,7 @@ fn check_counts(rt: &impl Abort, alloc: Global, rows: &[&str]) -> Result<(), Fai
         let Opening { mut state, limit } = Opening::new(rt, alloc, settings)?;
         let (_, counts) = fly_counted(alloc, &rows, 0, limit, &mut state)?;
         let found = counts_shown(alloc, &counts)?;
-        assert_eq!(rt; found.as_str(), want, "{row}");
+        equal_in(rt, &row, &found.as_str(), &want);
     }
     Ok(())
 }
@@ -324,11 +325,11 @@ fn from_a_row(rt: HostRuntime) -> Result<(), Fail> {
         cycles: 0,
     };
     let flown = fly(rt.alloc(), &rows, 2, 9, &mut state)?;
-    assert_eq!(rt; flown, want);
-    assert_eq!(rt; state.reg(Reg { side: A, number: 1 }), 0);
+    equal(&rt, &flown, &want);
+    equal(&rt, &state.reg(Reg { side: A, number: 1 }), &0);
     let flown = fly(rt.alloc(), &rows, 1, 9, &mut state)?;
-    assert_eq!(rt; flown.cycles, 1);
-    assert_eq!(rt; state.reg(Reg { side: A, number: 1 }), 2);
+    equal(&rt, &flown.cycles, &1);
+    equal(&rt, &state.reg(Reg { side: A, number: 1 }), &2);
     Ok(())
 }
 
@@ -343,6 +344,6 @@ fn want_of_memory(rt: HostRuntime) -> Result<(), Fail> {
         Ok(_) => 1,
         Err(_) => 0,
     };
-    assert_eq!(rt; state.reg(Reg { side: A, number: 1 }), left);
+    equal(&rt, &state.reg(Reg { side: A, number: 1 }), &left);
     Ok(())
 }

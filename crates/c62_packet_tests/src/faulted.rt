@@ -1,5 +1,6 @@
 //! Accesses that fault where packets run, worked out by docs/MACHINE.md.
 
+use crate::expect::equal;
 use c62_exec::is_issuable;
 use c62_faulted::{Fault, push_faults};
 use c62_faulted_packets::{faults_of_flight, faults_of_packets};
@@ -98,7 +99,7 @@ fn check(
 ) -> Result<(), AllocError> {
     let mut told = Vec::new(alloc);
     push_faults(&mut told, alloc, base, faults)?;
-    assert_eq!(rt; told.as_slice(), want.as_bytes());
+    equal(rt, &told.as_slice(), &want.as_bytes());
     Ok(())
 }
 

@@ -5,6 +5,8 @@
 #[cfg(test)]
 mod exec;
 #[cfg(test)]
+mod expect;
+#[cfg(test)]
 mod faulted;
 #[cfg(test)]
 mod listing;

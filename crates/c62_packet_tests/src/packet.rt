@@ -1,5 +1,6 @@
 //! Blocks without instructions. Those with instructions are read from listings in a crate above.
 
+use crate::expect::equal;
 use c62_packet::{BlockFault, PacketBlock, Packets};
 use c62_read::read_insn;
 use std::test::Fail;
@@ -7,8 +8,8 @@ use std::test::Fail;
 #[test]
 fn takes_an_empty_block(rt: HostRuntime) -> Result<(), Fail> {
     let block = PacketBlock::new(None, 0, Vec::new(rt.alloc()))?;
-    assert_eq!(rt; block.length(), 0);
-    assert_eq!(rt; block.placed().len(), 0);
+    equal(&rt, &block.length(), &0);
+    equal(&rt, &block.placed().len(), &0);
     assert!(rt; block.label().is_none());
     Ok(())
 }
@@ -17,7 +18,7 @@ fn takes_an_empty_block(rt: HostRuntime) -> Result<(), Fail> {
 fn refuses_cycles_that_are_not_the_length(rt: HostRuntime) -> Result<(), Fail> {
     match PacketBlock::new(None, 1, Vec::new(rt.alloc())) {
         Ok(_) => assert!(rt; false),
-        Err(fault) => assert_eq!(rt; fault, BlockFault::NotDrained),
+        Err(fault) => equal(&rt, &fault, &BlockFault::NotDrained),
     }
     Ok(())
 }
@@ -25,7 +26,7 @@ fn refuses_cycles_that_are_not_the_length(rt: HostRuntime) -> Result<(), Fail> {
 #[test]
 fn lists_blocks(rt: HostRuntime) -> Result<(), Fail> {
     let mut packets = Packets::new(rt.alloc());
-    assert_eq!(rt; packets.len(), 0);
+    equal(&rt, &packets.len(), &0);
     assert!(rt; packets.closed());
     let label = read_insn(b"L1:")?.label;
     let block = PacketBlock::new(label, 0, Vec::new(rt.alloc()))?;
@@ -33,10 +34,10 @@ fn lists_blocks(rt: HostRuntime) -> Result<(), Fail> {
         Ok(()) => {}
         Err(_) => assert!(rt; false),
     }
-    assert_eq!(rt; packets.len(), 1);
+    equal(&rt, &packets.len(), &1);
     match packets.blocks() {
         [block] => match block.label() {
-            Some(label) => assert_eq!(rt; label.as_bytes(), b"L1".as_slice()),
+            Some(label) => equal(&rt, &label.as_bytes(), &b"L1".as_slice()),
             None => assert!(rt; false),
         },
         _ => assert!(rt; false),

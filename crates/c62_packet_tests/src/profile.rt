@@ -1,5 +1,6 @@
 //! Tables of serial runs, worked out by hand. Those of packets are tested where listings are read.
 
+use crate::expect::equal;
 use c62_insn::Reg;
 use c62_insn::Side::A;
 use c62_profile::{run_serial, serial_table};
@@ -44,11 +45,11 @@ fn tables(rt: HostRuntime) -> Result<(), Fail> {
         let mut state = State::new(rt.alloc())?;
         state.set(A1, *value);
         let (chain, tally) = run_serial(rt.alloc(), &program, &mut state, *most)?;
-        assert_eq!(rt; chain.blocks, tally.blocks);
+        equal(&rt, &chain.blocks, &tally.blocks);
         let mut table = Vec::new(rt.alloc());
         serial_table(&mut table, &program, &tally)?;
         let expected = format!(in rt.alloc(); "block runs instructions sum share\n{rows}")?;
-        assert_eq!(rt; table.as_slice(), expected.as_bytes());
+        equal(&rt, &table.as_slice(), &expected.as_bytes());
     }
     Ok(())
 }

@@ -2,6 +2,7 @@
 
 ghost use Rattle.std.specs.Prelude.{None};
 
+use crate::expect::equal;
 use c62_files::{FileError, Folder};
 use c62_program::run_program;
 use std::alloc::{AllocError, Global};
@@ -652,9 +653,9 @@ fn runs<H: AllocGlobal + Threads + Wait + Abort + Sync>(
     let mut output = Vec::new(rt.alloc());
     let mut errors = Vec::new(rt.alloc());
     let status = run_program(rt, shelf, words, &mut reader, &mut output, &mut errors);
-    assert_eq!(rt; errors.as_slice(), wanted.1.as_bytes());
-    assert_eq!(rt; output.as_slice(), wanted.0.as_bytes());
-    assert_eq!(rt; status, wanted.2);
+    equal(rt, &errors.as_slice(), &wanted.1.as_bytes());
+    equal(rt, &output.as_slice(), &wanted.0.as_bytes());
+    equal(rt, &status, &wanted.2);
 }
 
 #[test]
@@ -675,7 +676,7 @@ fn writes<H: AllocGlobal + Threads + Wait + Abort + Sync>(
     let mut shelf = filled_shelf(rt.alloc(), is_full)?;
     runs(rt, &mut shelf, row.words, b"", row.wanted);
     match shelf.read(rt.alloc(), row.file.0, 100) {
-        Ok(found) => assert_eq!(rt; found.as_slice(), row.file.1.as_bytes()),
+        Ok(found) => equal(rt, &found.as_slice(), &row.file.1.as_bytes()),
         Err(_) => assert!(rt; false),
     }
     Ok(())

@@ -2,12 +2,15 @@
 
 ghost use Rattle.std.specs.Prelude.{None};
 
+use crate::expect::equal;
 use c62_files::{FileError, Folder};
 use c62_program::{EXPLAIN, LINT, run_program};
 use std::alloc::Global;
 use std::io;
 use std::process::Abort;
+use std::sync::Wait;
 use std::test::Fail;
+use std::thread::Threads;
 
 /// A folder with one file, `k.s`, that has these bytes, and the bytes that were written last.
 #[derive(Drop)]
@@ -356,20 +359,30 @@ const RUNS: [(&[&str], &str, &str, &str, u8); 52] = [
     (&["help", "explain"], "", EXPLAIN, "", 0),
 ];
 
+/// Runs the words. What they answer is wanted.
+fn runs<H: AllocGlobal + Threads + Wait + Abort + Sync>(
+    rt: &H,
+    words: &[&str],
+    input: &str,
+    wanted: (&str, &str, u8),
+) {
+    let mut folder = OneFile {
+        bytes: b"MVK 1,A1\nMYP\n",
+        written: Vec::new(rt.alloc()),
+    };
+    let mut reader = input.as_bytes();
+    let mut answer = Vec::new(rt.alloc());
+    let mut told = Vec::new(rt.alloc());
+    let ended = run_program(rt, &mut folder, words, &mut reader, &mut answer, &mut told);
+    equal(rt, &told.as_slice(), &wanted.1.as_bytes());
+    equal(rt, &answer.as_slice(), &wanted.0.as_bytes());
+    equal(rt, &ended, &wanted.2);
+}
+
 #[test]
 fn faults_are_told(rt: HostRuntime) -> Result<(), Fail> {
     for (words, input, output, errors, status) in &RUNS {
-        let mut folder = OneFile {
-            bytes: b"MVK 1,A1\nMYP\n",
-            written: Vec::new(rt.alloc()),
-        };
-        let mut reader = input.as_bytes();
-        let mut answer = Vec::new(rt.alloc());
-        let mut told = Vec::new(rt.alloc());
-        let ended = run_program(&rt, &mut folder, words, &mut reader, &mut answer, &mut told);
-        assert_eq!(&rt; told.as_slice(), errors.as_bytes());
-        assert_eq!(&rt; answer.as_slice(), output.as_bytes());
-        assert_eq!(&rt; ended, *status);
+        runs(&rt, words, input, (*output, *errors, *status));
     }
     Ok(())
 }
@@ -392,9 +405,9 @@ fn what_lint_finds_goes_to_a_file(rt: HostRuntime) -> Result<(), Fail> {
         &mut answer,
         &mut told,
     );
-    assert_eq!(&rt; ended, 1);
+    equal(&rt, &ended, &1);
     assert!(&rt; told.is_empty() && answer.is_empty());
     let line: &[u8] = b"k.s:1:2: error: UnknownMnemonic: a mnemonic is wanted here\n";
-    assert_eq!(&rt; folder.written.as_slice(), line);
+    equal(&rt, &folder.written.as_slice(), &line);
     Ok(())
 }

@@ -1,5 +1,6 @@
 //! Runs of `adopt`, worked out by docs/ADOPT.md.
 
+use crate::expect::equal;
 use c62_answer::run_on_bytes;
 use std::process::Abort;
 use std::sync::Wait;
@@ -132,8 +133,8 @@ fn refuses<H: AllocGlobal + Threads + Wait + Abort + Sync>(
     expected: &str,
 ) {
     let ran = run_on_bytes(rt, words, text);
-    assert_eq!(rt; ran.errors.as_slice(), expected.as_bytes());
-    assert_eq!(rt; ran.status, 1);
+    equal(rt, &ran.errors.as_slice(), &expected.as_bytes());
+    equal(rt, &ran.status, &1);
     assert!(rt; ran.output.is_empty());
 }
 
@@ -141,9 +142,9 @@ fn refuses<H: AllocGlobal + Threads + Wait + Abort + Sync>(
 fn adopted_texts(rt: HostRuntime) -> Result<(), Fail> {
     for (words, text, listing, told) in &ADOPTED {
         let ran = run_on_bytes(&rt, *words, text);
-        assert_eq!(rt; ran.output.as_slice(), listing.as_bytes());
-        assert_eq!(rt; ran.errors.as_slice(), told.as_bytes());
-        assert_eq!(rt; ran.status, 0);
+        equal(&rt, &ran.output.as_slice(), &listing.as_bytes());
+        equal(&rt, &ran.errors.as_slice(), &told.as_bytes());
+        equal(&rt, &ran.status, &0);
     }
     Ok(())
 }
@@ -205,8 +206,8 @@ fn lacking_texts(rt: HostRuntime) -> Result<(), Fail> {
     for (text, refusal, told) in &LACKING {
         refuses(&rt, &["adopt"], text, refusal);
         let ran = run_on_bytes(&rt, &["adopt", "--drain"], text);
-        assert_eq!(rt; ran.errors.as_slice(), told.as_bytes());
-        assert_eq!(rt; ran.status, 0);
+        equal(&rt, &ran.errors.as_slice(), &told.as_bytes());
+        equal(&rt, &ran.status, &0);
     }
     Ok(())
 }
@@ -219,7 +220,7 @@ fn longest_texts(rt: HostRuntime) -> Result<(), Fail> {
         text.extend_from_slice(COMMENT)?;
     }
     let ran = run_on_bytes(&rt, &["adopt"], &text);
-    assert_eq!(rt; ran.status, 0);
+    equal(&rt, &ran.status, &0);
     assert!(rt; ran.output.is_empty());
     assert!(rt; ran.errors.is_empty());
     text.push(b'\n')?;

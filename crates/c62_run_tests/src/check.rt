@@ -1,5 +1,6 @@
 //! Checks of listings against texts.
 
+use crate::expect::equal;
 use crate::texts::refuses;
 use c62_answer::run_on_bytes;
 use std::process::Abort;
@@ -219,9 +220,9 @@ fn checks<H: AllocGlobal + Threads + Wait + Abort + Sync>(
     expected: &str,
 ) {
     let ran = run_on_bytes(rt, &["check"], input);
-    assert_eq!(rt; ran.output.as_slice(), expected.as_bytes());
+    equal(rt, &ran.output.as_slice(), &expected.as_bytes());
     assert!(rt; ran.errors.is_empty());
-    assert_eq!(rt; ran.status, status);
+    equal(rt, &ran.status, &status);
 }
 
 #[test]
@@ -239,15 +240,15 @@ fn checked_texts(rt: HostRuntime) -> Result<(), Fail> {
 fn checked_loops(rt: HostRuntime) -> Result<(), Fail> {
     for (words, input, status, expected) in &LOOPS {
         let ran = run_on_bytes(&rt, words, input);
-        assert_eq!(rt; ran.output.as_slice(), expected.as_bytes());
+        equal(&rt, &ran.output.as_slice(), &expected.as_bytes());
         assert!(rt; ran.errors.is_empty());
-        assert_eq!(rt; ran.status, *status);
+        equal(&rt, &ran.status, status);
     }
     for (words, input, status, expected) in &LOOPLESS {
         let ran = run_on_bytes(&rt, words, input);
-        assert_eq!(rt; ran.errors.as_slice(), expected.as_bytes());
+        equal(&rt, &ran.errors.as_slice(), &expected.as_bytes());
         assert!(rt; ran.output.is_empty());
-        assert_eq!(rt; ran.status, *status);
+        equal(&rt, &ran.status, status);
     }
     Ok(())
 }

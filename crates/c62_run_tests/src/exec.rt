@@ -1,5 +1,6 @@
 //! Runs of `exec`, worked out by docs/EXEC.md.
 
+use crate::expect::equal;
 use c62_answer::run_on_bytes;
 use std::test::Fail;
 
@@ -97,9 +98,9 @@ const FLOWN: [(&[&str], &[u8], &str); 15] = [
 fn flights(rt: HostRuntime) -> Result<(), Fail> {
     for (words, text, report) in &FLOWN {
         let ran = run_on_bytes(&rt, words, text);
-        assert_eq!(rt; ran.output.as_slice(), report.as_bytes());
+        equal(&rt, &ran.output.as_slice(), &report.as_bytes());
         assert!(rt; ran.errors.is_empty());
-        assert_eq!(rt; ran.status, 0);
+        equal(&rt, &ran.status, &0);
     }
     Ok(())
 }
@@ -145,8 +146,8 @@ fn refused_flights(rt: HostRuntime) -> Result<(), Fail> {
     for (words, text, told) in &REFUSED {
         let ran = run_on_bytes(&rt, words, text);
         assert!(rt; ran.output.is_empty());
-        assert_eq!(rt; ran.errors.as_slice(), told.as_bytes());
-        assert_eq!(rt; ran.status, 1);
+        equal(&rt, &ran.errors.as_slice(), &told.as_bytes());
+        equal(&rt, &ran.status, &1);
     }
     Ok(())
 }

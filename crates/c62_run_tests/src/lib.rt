@@ -8,6 +8,8 @@ mod adopt;
 mod check;
 #[cfg(test)]
 mod exec;
+#[cfg(test)]
+mod expect;
 mod loops;
 #[cfg(test)]
 mod show;

@@ -1,5 +1,6 @@
 //! Texts whose loops are pipelined, over streams in memory.
 
+use crate::expect::equal;
 use c62_answer::run_on_bytes;
 use std::process::Abort;
 use std::sync::Wait;
@@ -124,9 +125,9 @@ const ROWS: [(&[&str], &[u8], u8, &str, &str); 11] = [
 fn pipelined_texts(rt: HostRuntime) -> Result<(), Fail> {
     for (words, text, status, written, told) in &ROWS {
         let ran = run_on_bytes(&rt, *words, text);
-        assert_eq!(rt; ran.output.as_slice(), written.as_bytes());
-        assert_eq!(rt; ran.errors.as_slice(), told.as_bytes());
-        assert_eq!(rt; ran.status, *status);
+        equal(&rt, &ran.output.as_slice(), &written.as_bytes());
+        equal(&rt, &ran.errors.as_slice(), &told.as_bytes());
+        equal(&rt, &ran.status, status);
     }
     Ok(())
 }

@@ -1,5 +1,6 @@
 //! Pictures of texts, by the rules of docs/SHOW.md.
 
+use crate::expect::equal;
 use c62_answer::run_on_bytes;
 use std::test::Fail;
 
@@ -347,7 +348,7 @@ fn longest_path_lines(rt: HostRuntime) -> Result<(), Fail> {
         }
         let ran = run_on_bytes(&rt, &["show", "--turns"], &text);
         let front = format!(in rt.alloc(); "{PATH_HEAD}{path}")?;
-        assert_eq!(rt; ran.status, 0);
+        equal(&rt, &ran.status, &0);
         assert!(rt; ran.output.starts_with(front.as_bytes()));
     }
     Ok(())
@@ -357,8 +358,8 @@ fn longest_path_lines(rt: HostRuntime) -> Result<(), Fail> {
 fn pictures(rt: HostRuntime) -> Result<(), Fail> {
     for (words, text, picture) in &SHOWN {
         let ran = run_on_bytes(&rt, *words, text);
-        assert_eq!(rt; ran.status, 0);
-        assert_eq!(rt; ran.output.as_slice(), picture.as_bytes());
+        equal(&rt, &ran.status, &0);
+        equal(&rt, &ran.output.as_slice(), &picture.as_bytes());
         assert!(rt; ran.errors.is_empty());
     }
     Ok(())
@@ -373,7 +374,7 @@ fn pictures_of_long_texts(rt: HostRuntime) -> Result<(), Fail> {
         }
         text.extend_from_slice(rest)?;
         let ran = run_on_bytes(&rt, &["show", "--turns"], &text);
-        assert_eq!(rt; ran.status, 0);
+        equal(&rt, &ran.status, &0);
         assert!(rt; ran.output.starts_with(front.as_bytes()));
         assert!(rt; ran.errors.is_empty());
     }
@@ -404,9 +405,9 @@ const REFUSED: [(&[&str], &[u8], &str); 4] = [
 fn packets_that_are_none(rt: HostRuntime) -> Result<(), Fail> {
     for (words, text, told) in &REFUSED {
         let ran = run_on_bytes(&rt, *words, text);
-        assert_eq!(rt; ran.status, 1);
+        equal(&rt, &ran.status, &1);
         assert!(rt; ran.output.is_empty());
-        assert_eq!(rt; ran.errors.as_slice(), told.as_bytes());
+        equal(&rt, &ran.errors.as_slice(), &told.as_bytes());
     }
     Ok(())
 }

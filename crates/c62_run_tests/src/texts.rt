@@ -1,5 +1,6 @@
 //! Runs over streams in memory: listings, texts that are refused, and what is told of words.
 
+use crate::expect::equal;
 use c62_answer::run_on_bytes;
 use std::process::Abort;
 use std::sync::Wait;
@@ -368,8 +369,8 @@ pub(crate) fn refuses<H: AllocGlobal + Threads + Wait + Abort + Sync>(
     expected: &str,
 ) {
     let ran = run_on_bytes(rt, &[command], text);
-    assert_eq!(rt; ran.errors.as_slice(), expected.as_bytes());
-    assert_eq!(rt; ran.status, 1);
+    equal(rt, &ran.errors.as_slice(), &expected.as_bytes());
+    equal(rt, &ran.status, &1);
     assert!(rt; ran.output.is_empty());
 }
 
@@ -377,8 +378,8 @@ pub(crate) fn refuses<H: AllocGlobal + Threads + Wait + Abort + Sync>(
 fn listings(rt: HostRuntime) -> Result<(), Fail> {
     for (words, text, listing) in &LISTED {
         let ran = run_on_bytes(&rt, *words, text);
-        assert_eq!(rt; ran.status, 0);
-        assert_eq!(rt; ran.output.as_slice(), listing.as_bytes());
+        equal(&rt, &ran.status, &0);
+        equal(&rt, &ran.output.as_slice(), &listing.as_bytes());
         assert!(rt; ran.errors.is_empty());
     }
     Ok(())
@@ -394,8 +395,8 @@ fn longest_block(rt: HostRuntime) -> Result<(), Fail> {
         listing.extend_from_slice(b"   MVK .S1 1,A1\n")?;
     }
     let ran = run_on_bytes(&rt, &["pack"], &text);
-    assert_eq!(rt; ran.status, 0);
-    assert_eq!(rt; ran.output.as_slice(), listing.as_slice());
+    equal(&rt, &ran.status, &0);
+    equal(&rt, &ran.output.as_slice(), &listing.as_slice());
     assert!(rt; ran.errors.is_empty());
     Ok(())
 }
@@ -412,9 +413,9 @@ fn longest_program(rt: HostRuntime) -> Result<(), Fail> {
         }
     }
     let ran = run_on_bytes(&rt, &["run", "--turns", "--blocks", "64"], &text);
-    assert_eq!(rt; ran.status, 0);
+    equal(&rt, &ran.status, &0);
     let report = "blocks 64\ncycles 16384\nexit end\nA1 00004000\n";
-    assert_eq!(rt; ran.output.as_slice(), report.as_bytes());
+    equal(&rt, &ran.output.as_slice(), &report.as_bytes());
     assert!(rt; ran.errors.is_empty());
     Ok(())
 }
@@ -446,8 +447,8 @@ fn told_words(rt: HostRuntime) -> Result<(), Fail> {
         } else {
             format!(in rt.alloc(); "{text}\nExample:\n  {example}\n\n{STATUS_HELP}")?
         };
-        assert_eq!(rt; ran.errors.as_slice(), expected.as_bytes());
-        assert_eq!(rt; ran.status, 2);
+        equal(&rt, &ran.errors.as_slice(), &expected.as_bytes());
+        equal(&rt, &ran.status, &2);
         assert!(rt; ran.output.is_empty());
     }
     Ok(())

@@ -1,5 +1,6 @@
 //! Blocks with their greatest needs and critical paths.
 
+use crate::expect::{equal, equal_in};
 use c62_bound::{Kind, Need, bound, critical_path, least_length, path_length};
 use c62_depend::Plan;
 use c62_insn::Side::{self, A, B};
@@ -168,7 +169,7 @@ STW A0,*A8\nSTW A0,*+A8[1]\nSTW A0,*+A8[2]\nSTW A0,*+A8[3]",
 /// The plan of the only block of a text.
 fn plan_of(rt: &impl Abort, alloc: Global, text: &str) -> Result<Plan, Fail> {
     let mut blocks = read_program(alloc, text.as_bytes())?.into_blocks();
-    assert_eq!(rt; blocks.len(), 1, "{text}");
+    equal_in(rt, &text, &blocks.len(), &1);
     let block = blocks.pop().expect(rt, "a block");
     match Plan::new(alloc, block) {
         Ok(plan) => Ok(plan),
@@ -187,11 +188,11 @@ fn bounds(rt: HostRuntime) -> Result<(), Fail> {
             count: *count,
             tail: *tail,
         };
-        assert_eq!(rt; need, want, "{text}");
-        assert_eq!(rt; need.cycles(), *cycles, "{text}");
-        assert_eq!(rt; path_length(&plan), *length, "{text}");
+        equal_in(&rt, &text, &need, &want);
+        equal_in(&rt, &text, &need.cycles(), cycles);
+        equal_in(&rt, &text, &path_length(&plan), length);
         let least = (*cycles).max(u32::from(*length));
-        assert_eq!(rt; least_length(&plan), least, "{text}");
+        equal_in(&rt, &text, &least_length(&plan), &least);
         let found = critical_path(rt.alloc(), &plan)?;
         assert!(rt; &found[..] == *path, "{text}");
     }
@@ -202,10 +203,10 @@ fn bounds(rt: HostRuntime) -> Result<(), Fail> {
 fn nothing_is_needed(rt: HostRuntime) -> Result<(), Fail> {
     let plan = plan_of(&rt, rt.alloc(), "L1:")?;
     assert!(rt; bound(&plan).is_none());
-    assert_eq!(rt; path_length(&plan), 0);
-    assert_eq!(rt; least_length(&plan), 0);
+    equal(&rt, &path_length(&plan), &0);
+    equal(&rt, &least_length(&plan), &0);
     let found = critical_path(rt.alloc(), &plan)?;
-    assert_eq!(rt; found.len(), 0);
+    equal(&rt, &found.len(), &0);
     Ok(())
 }
 
@@ -225,13 +226,13 @@ fn a_whole_block_is_bound(rt: HostRuntime) -> Result<(), Fail> {
         count: 256,
         tail: 4,
     };
-    assert_eq!(rt; need, want);
-    assert_eq!(rt; path_length(&plan), 132);
-    assert_eq!(rt; least_length(&plan), 260);
+    equal(&rt, &need, &want);
+    equal(&rt, &path_length(&plan), &132);
+    equal(&rt, &least_length(&plan), &260);
     let found = critical_path(rt.alloc(), &plan)?;
-    assert_eq!(rt; found.len(), 128);
+    equal(&rt, &found.len(), &128);
     for (k, i) in found.iter().enumerate() {
-        assert_eq!(rt; usize::from(*i), 2 * k);
+        equal(&rt, &usize::from(*i), &(2 * k));
     }
     Ok(())
 }

@@ -1,5 +1,6 @@
 //! Worked blocks: their dependences, heights, sides and units.
 
+use crate::expect::{equal, equal_in};
 use c62_depend::Plan;
 use c62_insn::{Letter, Side, Unit};
 use c62_read::{Block, read_program};
@@ -167,7 +168,7 @@ const REPEATED: [&str; 4] = [
 /// The plan of the only block of a text.
 fn plan_of(rt: &impl Abort, alloc: Global, text: &str) -> Result<Plan, Fail> {
     let mut blocks = read_program(alloc, text.as_bytes())?.into_blocks();
-    assert_eq!(rt; blocks.len(), 1, "{text}");
+    equal_in(rt, &text, &blocks.len(), &1);
     let block = blocks.pop().expect(rt, "a block");
     match Plan::new(alloc, block) {
         Ok(plan) => Ok(plan),
@@ -191,7 +192,7 @@ fn plan_again(rt: &impl Abort, alloc: Global, block: Block) -> Result<Plan, Fail
         Ok(plan) => return Ok(plan),
         Err((block, _)) => block,
     };
-    assert_eq!(rt; block.insns().len(), count);
+    equal(rt, &block.insns().len(), &count);
     match Plan::new(alloc, block) {
         Ok(plan) => Ok(plan),
         Err((_, error)) => Err(error.into()),
@@ -243,7 +244,7 @@ fn are_implied(rt: &impl Abort, plan: &Plan, text: &str) -> Result<(), Fail> {
                 let latency = i32::from(link.latency);
                 let number = u16::from(link.number);
                 assert!(rt; number < plan.len(), "{text}");
-                assert_eq!(rt; plan.latency(k, number), Some(latency), "{text}");
+                equal_in(rt, &text, &plan.latency(k, number), &Some(latency));
                 let at = usize::from(number);
                 let sum: i32 = latency.saturating_add(before);
                 let known = reached[at];
@@ -309,10 +310,10 @@ fn is_planned(
 ) -> Result<(), Fail> {
     let plan = plan_of(rt, alloc, text)?;
     let found = latencies(alloc, &plan)?;
-    assert_eq!(rt; found.as_str(), want, "{text}");
+    equal_in(rt, &text, &found.as_str(), &want);
     are_implied(rt, &plan, text)?;
     let found = heights(alloc, &plan)?;
-    assert_eq!(rt; found.as_str(), high, "{text}");
+    equal_in(rt, &text, &found.as_str(), &high);
     Ok(())
 }
 
@@ -329,8 +330,13 @@ fn direct_dependences(rt: HostRuntime) -> Result<(), Fail> {
     for (text, want) in &DIRECT {
         let plan = plan_of(&rt, rt.alloc(), text)?;
         let found = followers(rt.alloc(), &plan)?;
-        assert_eq!(rt; found.as_str(), *want, "{text}");
-        assert_eq!(rt; count_needs(&plan), want.split(' ').count() - 1, "{text}");
+        equal_in(&rt, &text, &found.as_str(), want);
+        equal_in(
+            &rt,
+            &text,
+            &count_needs(&plan),
+            &(want.split(' ').count() - 1),
+        );
         are_implied(&rt, &plan, text)?;
     }
     Ok(())
@@ -363,7 +369,7 @@ fn sides_of_instructions(rt: HostRuntime) -> Result<(), Fail> {
                 Side::B => 'B',
             })?;
         }
-        assert_eq!(rt; found.as_str(), *want, "{text}");
+        equal_in(&rt, &text, &found.as_str(), want);
     }
     Ok(())
 }
@@ -373,7 +379,7 @@ fn units_of_instructions(rt: HostRuntime) -> Result<(), Fail> {
     for (text, want) in &UNITS {
         let plan = plan_of(&rt, rt.alloc(), text)?;
         let found = units(rt.alloc(), &plan)?;
-        assert_eq!(rt; found.as_str(), *want, "{text}");
+        equal_in(&rt, &text, &found.as_str(), want);
     }
     Ok(())
 }
@@ -383,7 +389,7 @@ fn plans_of_equal_blocks(rt: HostRuntime) -> Result<(), Fail> {
     for (text, other, want) in &SAME {
         let plan = plan_of(&rt, rt.alloc(), text)?;
         let other = plan_of(&rt, rt.alloc(), other)?;
-        assert_eq!(rt; plan.same(&other), *want, "{text}");
+        equal_in(&rt, &text, &plan.same(&other), want);
         assert!(rt; plan.same(&plan.copy(rt.alloc())?), "{text}");
     }
     Ok(())
@@ -396,19 +402,19 @@ fn a_full_block(rt: HostRuntime) -> Result<(), Fail> {
         text.push_str("MVK 1,A1\n")?;
     }
     let plan = plan_of(&rt, rt.alloc(), &text)?;
-    assert_eq!(rt; plan.len(), 256);
-    assert_eq!(rt; plan.height(0), 255);
-    assert_eq!(rt; plan.height(255), 0);
-    assert_eq!(rt; plan.latency(0, 255), Some(1));
+    equal(&rt, &plan.len(), &256);
+    equal(&rt, &plan.height(0), &255);
+    equal(&rt, &plan.height(255), &0);
+    equal(&rt, &plan.latency(0, 255), &Some(1));
     assert!(rt; plan.depends(0, 255) && !plan.depends(255, 0));
-    assert_eq!(rt; plan.needs(255).len(), 1);
-    assert_eq!(rt; plan.needs(255)[0].number, 254);
-    assert_eq!(rt; plan.followers(0).len(), 1);
+    equal(&rt, &plan.needs(255).len(), &1);
+    equal(&rt, &plan.needs(255)[0].number, &254);
+    equal(&rt, &plan.followers(0).len(), &1);
     assert!(rt; plan.side(9) == Side::A);
-    assert_eq!(rt; plan.block().insns()[9].line, 10);
+    equal(&rt, &plan.block().insns()[9].line, &10);
     let copy = plan.copy(rt.alloc())?;
     assert!(rt; copy.same(&plan));
-    assert_eq!(rt; copy.needs(255).len(), 1);
+    equal(&rt, &copy.needs(255).len(), &1);
     Ok(())
 }
 
@@ -421,7 +427,7 @@ fn long_blocks(rt: HostRuntime) -> Result<(), Fail> {
             text.push_str(lines)?;
         }
         let plan = plan_of(&rt, rt.alloc(), &text)?;
-        assert_eq!(rt; plan.len(), 80);
+        equal(&rt, &plan.len(), &80);
         are_implied(&rt, &plan, lines)?;
     }
     Ok(())
@@ -431,15 +437,15 @@ fn long_blocks(rt: HostRuntime) -> Result<(), Fail> {
 fn where_memory_is_refused(rt: HostRuntime) -> Result<(), Fail> {
     let block = block_again(&rt, rt.alloc(), "LDW *A4,A5\nADD A5,A5,A6")?;
     let plan = plan_again(&rt, rt.alloc(), block)?;
-    assert_eq!(rt; plan.len(), 2);
-    assert_eq!(rt; plan.latency(0, 1), Some(5));
+    equal(&rt, &plan.len(), &2);
+    equal(&rt, &plan.latency(0, 1), &Some(5));
     let copy = match plan.copy(rt.alloc()) {
         Ok(copy) => copy,
         Err(_) => plan.copy(rt.alloc())?,
     };
     assert!(rt; copy.same(&plan));
-    assert_eq!(rt; copy.len(), 2);
-    assert_eq!(rt; copy.height(0), 5);
-    assert_eq!(rt; copy.needs(1).len(), 1);
+    equal(&rt, &copy.len(), &2);
+    equal(&rt, &copy.height(0), &5);
+    equal(&rt, &copy.needs(1).len(), &1);
     Ok(())
 }

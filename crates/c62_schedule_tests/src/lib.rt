@@ -7,6 +7,8 @@ mod bound;
 #[cfg(test)]
 mod depend;
 #[cfg(test)]
+mod expect;
+#[cfg(test)]
 mod raised;
 #[cfg(test)]
 mod refute;

@@ -1,5 +1,6 @@
 //! Blocks with their raised bounds.
 
+use crate::expect::{equal, equal_in};
 use c62_bound::least_length;
 use c62_depend::Plan;
 use c62_raised::raised_length;
@@ -56,7 +57,7 @@ const RAISED: [(&str, u32, u32); 18] = [
 /// The plan of the only block of a text.
 fn plan_of(rt: &impl Abort, alloc: Global, text: &str) -> Result<Plan, Fail> {
     let mut blocks = read_program(alloc, text.as_bytes())?.into_blocks();
-    assert_eq!(rt; blocks.len(), 1, "{text}");
+    equal_in(rt, &text, &blocks.len(), &1);
     let block = blocks.pop().expect(rt, "a block");
     match Plan::new(alloc, block) {
         Ok(plan) => Ok(plan),
@@ -68,8 +69,8 @@ fn plan_of(rt: &impl Abort, alloc: Global, text: &str) -> Result<Plan, Fail> {
 fn bounds(rt: HostRuntime) -> Result<(), Fail> {
     for (text, least, raised) in &RAISED {
         let plan = plan_of(&rt, rt.alloc(), text)?;
-        assert_eq!(rt; least_length(&plan), *least, "{text}");
-        assert_eq!(rt; raised_length(&plan), *raised, "{text}");
+        equal_in(&rt, &text, &least_length(&plan), least);
+        equal_in(&rt, &text, &raised_length(&plan), raised);
     }
     Ok(())
 }
@@ -77,7 +78,7 @@ fn bounds(rt: HostRuntime) -> Result<(), Fail> {
 #[test]
 fn nothing_takes_no_cycle(rt: HostRuntime) -> Result<(), Fail> {
     let plan = plan_of(&rt, rt.alloc(), "L1:")?;
-    assert_eq!(rt; raised_length(&plan), 0);
+    equal(&rt, &raised_length(&plan), &0);
     Ok(())
 }
 
@@ -89,6 +90,6 @@ fn a_whole_block_is_bound(rt: HostRuntime) -> Result<(), Fail> {
         text.push_str("LDW *A4,A5\nLDW *B4,A6\n")?;
     }
     let plan = plan_of(&rt, rt.alloc(), text.as_str())?;
-    assert_eq!(rt; raised_length(&plan), 260);
+    equal(&rt, &raised_length(&plan), &260);
     Ok(())
 }

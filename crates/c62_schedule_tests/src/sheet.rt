@@ -1,5 +1,6 @@
 //! Worked blocks: what is refused, least spots, and changes of a sheet.
 
+use crate::expect::{equal, equal_in};
 use c62_depend::Plan;
 use c62_insn::{Letter, Side, Unit};
 use c62_read::read_program;
@@ -220,7 +221,7 @@ const WHOLES: [(&[Spot], bool); 6] = [
 /// An empty sheet of the only block of a text.
 fn sheet_of(rt: &impl Abort, alloc: Global, text: &str) -> Result<Sheet, Fail> {
     let mut blocks = read_program(alloc, text.as_bytes())?.into_blocks();
-    assert_eq!(rt; blocks.len(), 1, "{text}");
+    equal_in(rt, &text, &blocks.len(), &1);
     let block = blocks.pop().expect(rt, "a block");
     let plan = match Plan::new(alloc, block) {
         Ok(plan) => plan,
@@ -279,7 +280,7 @@ fn refused_spots(rt: HostRuntime) -> Result<(), Fail> {
             Ok(()) => format!(in rt.alloc(); "lawful")?,
             Err(fault) => format!(in rt.alloc(); "{fault}")?,
         };
-        assert_eq!(rt; answer.as_str(), *want, "{text}");
+        equal_in(&rt, &text, &answer.as_str(), want);
     }
     Ok(())
 }
@@ -288,14 +289,14 @@ fn refused_spots(rt: HostRuntime) -> Result<(), Fail> {
 fn least_spots_in_order(rt: HostRuntime) -> Result<(), Fail> {
     for (text, want, length) in &IN_ORDER {
         let mut sheet = sheet_of(&rt, rt.alloc(), text)?;
-        assert_eq!(rt; sheet.length(), 0);
+        equal(&rt, &sheet.length(), &0);
         for k in 0..sheet.plan().len() {
             assert!(rt; !sheet.complete());
             place(&rt, &mut sheet, k);
         }
         assert!(rt; sheet.complete());
-        assert_eq!(rt; spots(rt.alloc(), &sheet)?.as_str(), *want, "{text}");
-        assert_eq!(rt; sheet.length(), *length, "{text}");
+        equal_in(&rt, &text, &spots(rt.alloc(), &sheet)?.as_str(), want);
+        equal_in(&rt, &text, &sheet.length(), length);
     }
     Ok(())
 }
@@ -309,9 +310,9 @@ fn changes_and_counts(rt: HostRuntime) -> Result<(), Fail> {
         ready_a: 1,
         ready_b: 2,
     };
-    assert_eq!(rt; sheet.counts(), none);
-    assert_eq!(rt; sheet.pick(Side::A), Some(2));
-    assert_eq!(rt; sheet.pick(Side::B), Some(0));
+    equal(&rt, &sheet.counts(), &none);
+    equal(&rt, &sheet.pick(Side::A), &Some(2));
+    equal(&rt, &sheet.pick(Side::B), &Some(0));
     for entry in &CHANGES[..4] {
         assert!(rt; sheet.apply(entry));
     }
@@ -323,22 +324,23 @@ fn changes_and_counts(rt: HostRuntime) -> Result<(), Fail> {
     };
     for entry in &REFUSED {
         assert!(rt; !sheet.apply(entry));
-        assert_eq!(rt; sheet.counts(), four);
+        equal(&rt, &sheet.counts(), &four);
     }
-    assert_eq!(rt; sheet.pick(Side::A), Some(4));
-    assert_eq!(rt; sheet.pick(Side::B), None);
+    equal(&rt, &sheet.pick(Side::A), &Some(4));
+    equal(&rt, &sheet.pick(Side::B), &None);
     for entry in &CHANGES[4..] {
         assert!(rt; sheet.apply(entry));
     }
-    assert_eq!(rt;
-        spots(rt.alloc(), &sheet)?.as_str(),
-        "0.D2 0.L2 1.L1 2.L1 0.M1 2.M1 "
+    equal(
+        &rt,
+        &spots(rt.alloc(), &sheet)?.as_str(),
+        &"0.D2 0.L2 1.L1 2.L1 0.M1 2.M1 ",
     );
     assert!(rt; sheet.complete());
-    assert_eq!(rt; sheet.length(), 5);
+    equal(&rt, &sheet.length(), &5);
     sheet.clear();
-    assert_eq!(rt; sheet.counts(), none);
-    assert_eq!(rt; sheet.into_plan().len(), 6);
+    equal(&rt, &sheet.counts(), &none);
+    equal(&rt, &sheet.into_plan().len(), &6);
     Ok(())
 }
 
@@ -356,7 +358,7 @@ fn picks_and_early_cycles(rt: HostRuntime) -> Result<(), Fail> {
             sheet.early(3),
             sheet.early(5),
         );
-        assert_eq!(rt; seen, AFTER[k], "change {k}");
+        equal_in(&rt, &k, &seen, &AFTER[k]);
     }
     Ok(())
 }
@@ -377,10 +379,11 @@ fn withdrawn_as_new(rt: HostRuntime) -> Result<(), Fail> {
         for cycle in 0..30 {
             for unit in Unit::ALL {
                 let spot = Spot { cycle, unit };
-                assert_eq!(rt;
-                    sheet.check(i, spot),
-                    fresh.check(i, spot),
-                    "{i} at {cycle}"
+                equal_in(
+                    &rt,
+                    &(i, cycle),
+                    &sheet.check(i, spot),
+                    &fresh.check(i, spot),
                 );
             }
         }
@@ -397,9 +400,9 @@ fn one_stands_in_the_way(rt: HostRuntime) -> Result<(), Fail> {
     assert_eq!(rt; sheet.plan().len(), 6);
     assert!(rt; sheet.ready(4) && !sheet.ready(5) && sheet.is_last(3) && !sheet.is_last(2));
     let early = sheet.early(4);
-    assert_eq!(rt; early, 0);
+    equal(&rt, &early, &0);
     for q in 0..6 {
-        assert_eq!(rt; sheet.fits_without(4, early, q), q == 2);
+        equal(&rt, &sheet.fits_without(4, early, q), &(q == 2));
     }
     Ok(())
 }
@@ -408,7 +411,7 @@ fn one_stands_in_the_way(rt: HostRuntime) -> Result<(), Fail> {
 fn wholes_made_elsewhere(rt: HostRuntime) -> Result<(), Fail> {
     let sheet = sheet_of(&rt, rt.alloc(), IN_ORDER[0].0)?;
     for (spots, want) in &WHOLES {
-        assert_eq!(rt; are_lawful(sheet.plan(), spots), *want, "{spots:?}");
+        equal_in(&rt, &spots, &are_lawful(sheet.plan(), spots), want);
     }
     Ok(())
 }
@@ -423,9 +426,9 @@ fn a_full_block(rt: HostRuntime) -> Result<(), Fail> {
     for i in 0..sheet.plan().len() {
         place(&rt, &mut sheet, i);
         assert!(rt; i < sheet.plan().len());
-        assert_eq!(rt; sheet.spot_of(i), Some(Spot { cycle: i, unit: S1 }));
+        equal(&rt, &sheet.spot_of(i), &Some(Spot { cycle: i, unit: S1 }));
     }
     assert!(rt; sheet.complete());
-    assert_eq!(rt; sheet.length(), 256);
+    equal(&rt, &sheet.length(), &256);
     Ok(())
 }

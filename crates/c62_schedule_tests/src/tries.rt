@@ -1,5 +1,6 @@
 //! Lists from both ends, of blocks worked by hand.
 
+use crate::expect::{equal, equal_in};
 use c62_depend::Plan;
 use c62_read::read_program;
 use c62_sheet::are_lawful;
@@ -24,7 +25,7 @@ const LENGTHS: [(&str, u16, u16); 5] = [
 /// The plan of the only block of a text.
 fn plan_of(rt: &impl Abort, alloc: Global, text: &str) -> Result<Plan, Fail> {
     let mut blocks = read_program(alloc, text.as_bytes())?.into_blocks();
-    assert_eq!(rt; blocks.len(), 1, "{text}");
+    equal_in(rt, &text, &blocks.len(), &1);
     match Plan::new(alloc, blocks.pop().expect(rt, "a block")) {
         Ok(plan) => Ok(plan),
         Err((_, error)) => Err(error.into()),
@@ -52,7 +53,7 @@ fn lists_from_both_ends(rt: HostRuntime) -> Result<(), Fail> {
         let on = length(&rt, rt.alloc(), &plan, &order)?;
         let order = Order::by_depth(rt.alloc(), &plan)?;
         let back = length(&rt, rt.alloc(), &plan, &order)?;
-        assert_eq!(rt; (on, back), (*forward, *backward), "{text}");
+        equal_in(&rt, &text, &(on, back), &(*forward, *backward));
     }
     Ok(())
 }
@@ -63,10 +64,10 @@ fn orders_by_cycle(rt: HostRuntime) -> Result<(), Fail> {
     let plan = plan_of(&rt, rt.alloc(), "MPY A1,A2,A3\nMPY A1,A2,A4")?;
     let mut order = Order::by_cycle(rt.alloc(), &[1, 0], Way::Forward)?;
     let cycles = listed(rt.alloc(), &plan, &order)?;
-    assert_eq!(rt; cycles.as_slice(), [1, 0].as_slice());
+    equal(&rt, &cycles.as_slice(), &[1, 0].as_slice());
     order.least.push(4)?;
     order.least.push(3)?;
     let cycles = listed(rt.alloc(), &plan, &order)?;
-    assert_eq!(rt; cycles.as_slice(), [4, 3].as_slice());
+    equal(&rt, &cycles.as_slice(), &[4, 3].as_slice());
     Ok(())
 }

@@ -1,5 +1,6 @@
 //! Texts with their schedules, and what keeps each instruction in its cycle.
 
+use crate::expect::equal;
 use c62_depend::Plan;
 use c62_insn::{Letter, Side, Unit};
 use c62_packet::Placed;
@@ -113,7 +114,7 @@ fn each_has_its_cause(rt: HostRuntime) -> Result<(), Fail> {
                 return Err(Fail::new("memory ran out"));
             };
             let placed = placed_at(rt.alloc(), &plan, row.spots)?;
-            assert_eq!(rt; placed.len(), usize::from(plan.len()));
+            equal(&rt, &placed.len(), &usize::from(plan.len()));
             let whys = whys_of(rt.alloc(), &plan, row.cycles, &placed)?;
             for (why, want) in whys.iter().zip(row.want) {
                 assert!(rt; told(why) == *want);

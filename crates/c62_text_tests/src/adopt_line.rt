@@ -1,5 +1,6 @@
 //! Lines of packets, and what they are read as.
 
+use crate::expect::equal;
 use c62_adopt_line::{LineFault, Written, read_line};
 use c62_line::read_insn;
 use std::alloc::Global;
@@ -127,9 +128,9 @@ const TI: [(&str, &str); 12] = [
 #[test]
 fn lines_say_what_serial_lines_say(rt: HostRuntime) -> Result<(), Fail> {
     let alloc = rt.alloc();
-    assert_eq!(rt; first_wrong(alloc, &FORMS)?, "");
-    assert_eq!(rt; first_wrong(alloc, &GNU)?, "");
-    assert_eq!(rt; first_wrong(alloc, &TI)?, "");
+    equal(&rt, &first_wrong(alloc, &FORMS)?, &"");
+    equal(&rt, &first_wrong(alloc, &GNU)?, &"");
+    equal(&rt, &first_wrong(alloc, &TI)?, &"");
     Ok(())
 }
 
@@ -200,7 +201,7 @@ fn first_wrong_refusal(alloc: Global, rows: &[(&'static str, &str)]) -> &'static
 
 #[test]
 fn faults_are_told_by_name(rt: HostRuntime) -> Result<(), Fail> {
-    assert_eq!(rt; first_wrong_refusal(rt.alloc(), &REFUSED), "");
+    equal(&rt, &first_wrong_refusal(rt.alloc(), &REFUSED), &"");
     Ok(())
 }
 
@@ -218,7 +219,7 @@ fn told_of_length(alloc: Global, length: usize) -> Result<&'static str, Fail> {
 
 #[test]
 fn lines_have_255_bytes(rt: HostRuntime) -> Result<(), Fail> {
-    assert_eq!(rt; told_of_length(rt.alloc(), 255)?, "read");
-    assert_eq!(rt; told_of_length(rt.alloc(), 256)?, "LineTooLong");
+    equal(&rt, &told_of_length(rt.alloc(), 255)?, &"read");
+    equal(&rt, &told_of_length(rt.alloc(), 256)?, &"LineTooLong");
     Ok(())
 }

@@ -5,6 +5,8 @@
 #[cfg(test)]
 mod adopt_line;
 #[cfg(test)]
+mod expect;
+#[cfg(test)]
 mod lint;
 #[cfg(test)]
 mod place;

@@ -4,6 +4,7 @@ mod limits;
 mod order;
 mod targets;
 
+use crate::expect::{equal, equal_in};
 use c62_insn::{AddressForm, Insn, Offset, Op, Operands, Reg, Side};
 use c62_line::{Reading, What, read_insn};
 use c62_read::{Block, read_program};
@@ -196,16 +197,16 @@ fn answer(alloc: Global, text: &str) -> Result<String, Fail> {
 /// The only instruction of a text.
 fn only(rt: &impl Abort, alloc: Global, text: &str) -> Result<Insn, Fail> {
     let program = read_program(alloc, text.as_bytes())?;
-    assert_eq!(rt; program.blocks().len(), 1, "{text}");
+    equal_in(rt, &text, &program.blocks().len(), &1);
     let block = &program.blocks()[0];
-    assert_eq!(rt; block.insns().len(), 1, "{text}");
+    equal_in(rt, &text, &block.insns().len(), &1);
     Ok(block.insns()[0].insn)
 }
 
 /// The text gets its answer.
 fn check_answer(rt: &impl Abort, alloc: Global, text: &str, want: &str) -> Result<(), Fail> {
     let found = answer(alloc, text)?;
-    assert_eq!(rt; found.as_str(), want, "{text}");
+    equal_in(rt, &text, &found.as_str(), &want);
     Ok(())
 }
 
@@ -302,7 +303,7 @@ fn reads_one_line(rt: HostRuntime) -> Result<(), Fail> {
             Ok(reading) => told(rt.alloc(), &reading)?,
             Err(fault) => format!(in rt.alloc(); "{fault}")?,
         };
-        assert_eq!(rt; found.as_str(), want, "{line}");
+        equal_in(&rt, &line, &found.as_str(), &want);
     }
     Ok(())
 }
@@ -324,18 +325,18 @@ fn blocks_and_their_copies(rt: HostRuntime) -> Result<(), Fail> {
         (false, &[5], None),
     ];
     let program = read_program(rt.alloc(), text.as_bytes())?;
-    assert_eq!(rt; program.blocks().len(), wants.len());
+    equal(&rt, &program.blocks().len(), &wants.len());
     for (block, (labelled, lines, aim)) in program.blocks().iter().zip(wants) {
         let copy = block.copy(rt.alloc())?;
-        assert_eq!(rt; copy.label().is_some(), labelled);
-        assert_eq!(rt; copy.insns().len(), lines.len());
+        equal(&rt, &copy.label().is_some(), &labelled);
+        equal(&rt, &copy.insns().len(), &lines.len());
         for (entry, line) in copy.insns().iter().zip(lines) {
-            assert_eq!(rt; entry.line, *line);
+            equal(&rt, &entry.line, line);
         }
-        assert_eq!(rt; target(block), aim);
-        assert_eq!(rt; target(&copy), aim);
+        equal(&rt, &target(block), &aim);
+        equal(&rt, &target(&copy), &aim);
     }
-    assert_eq!(rt; program.into_blocks().len(), wants.len());
+    equal(&rt, &program.into_blocks().len(), &wants.len());
     Ok(())
 }
 
@@ -356,6 +357,6 @@ fn an_access(rt: HostRuntime) -> Result<(), Fail> {
         offset: Offset::Constant(3),
     };
     let want = Insn::new(Op::Ldh, operands, None, None)?;
-    assert_eq!(rt; only(&rt, rt.alloc(), "LDH *A4++[3],B15 ; c")?, want);
+    equal(&rt, &only(&rt, rt.alloc(), "LDH *A4++[3],B15 ; c")?, &want);
     Ok(())
 }

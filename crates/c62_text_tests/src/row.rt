@@ -2,6 +2,7 @@
 
 ghost use Rattle.std.specs.Prelude.{◌<◌};
 
+use crate::expect::equal;
 use c62_insn::{AddressForm, Insn, Letter, Offset, Op, Operands, Reg, Side, Unit};
 use c62_row::{Row, Uses};
 use c62_rules::CycleRule;
@@ -77,25 +78,42 @@ fn row_of(insns: &[(Insn, Unit)]) -> Row {
 fn tells_the_breaches(rt: HostRuntime) -> Result<(), Fail> {
     let row = row_of(&[(three(Op::Add, a(1), a(2), a(3))?, L1)]);
     let sub = three(Op::Sub, a(4), a(5), a(6))?;
-    assert_eq!(rt; row.rule_against(&Uses::of(sub, L1)), Some(CycleRule::P1));
-    assert_eq!(rt; row.rule_against(&Uses::of(sub, S1)), None);
+    equal(
+        &rt,
+        &row.rule_against(&Uses::of(sub, L1)),
+        &Some(CycleRule::P1),
+    );
+    equal(&rt, &row.rule_against(&Uses::of(sub, S1)), &None);
 
     let row = row_of(&[(three(Op::Add, a(1), b(1), a(2))?, L1)]);
     let sub = three(Op::Sub, a(3), b(3), a(4))?;
-    assert_eq!(rt; row.rule_against(&Uses::of(sub, S1)), Some(CycleRule::P2));
+    equal(
+        &rt,
+        &row.rule_against(&Uses::of(sub, S1)),
+        &Some(CycleRule::P2),
+    );
 
     let row = row_of(&[(load(a(4), a(5))?, D1)]);
-    assert_eq!(rt;
-        row.rule_against(&Uses::of(load(b(4), a(6))?, D2)),
-        Some(CycleRule::P3)
+    equal(
+        &rt,
+        &row.rule_against(&Uses::of(load(b(4), a(6))?, D2)),
+        &Some(CycleRule::P3),
     );
-    assert_eq!(rt; row.rule_against(&Uses::of(load(b(4), b(6))?, D2)), None);
+    equal(
+        &rt,
+        &row.rule_against(&Uses::of(load(b(4), b(6))?, D2)),
+        &None,
+    );
 
     let row = row_of(&[
         (three(Op::Add, a(1), a(1), a(5))?, L1),
         (three(Op::Mpy, a(1), a(1), a(4))?, M1),
     ]);
     let sub = three(Op::Sub, a(1), a(2), a(3))?;
-    assert_eq!(rt; row.rule_against(&Uses::of(sub, S1)), Some(CycleRule::P4));
+    equal(
+        &rt,
+        &row.rule_against(&Uses::of(sub, S1)),
+        &Some(CycleRule::P4),
+    );
     Ok(())
 }

@@ -1,5 +1,6 @@
 //! What a gate is told of a worker's turns.
 
+use crate::expect::equal;
 use crate::worker_tests::{SUM, desk_on, journal_text, plan_of};
 use crate::{Gate, Options, schedule, worker};
 use c62_board::{Spot, Turn};
@@ -49,9 +50,9 @@ fn each_side_has_its_turns(rt: HostRuntime) -> Result<(), Fail> {
         let plan = plan_of(&rt, rt.alloc(), text)?;
         let board = schedule(&rt, rt.alloc(), plan, options, &gate)?;
         let found = journal_text(rt.alloc(), &board)?;
-        assert_eq!(rt; found.as_str(), want);
+        equal(&rt, &found.as_str(), &want);
         let made = gate.made.map(|count| count.load(Ordering::SeqCst));
-        assert_eq!(rt; made, [2, 2]);
+        equal(&rt, &made, &[2, 2]);
     }
     Ok(())
 }
@@ -158,7 +159,7 @@ fn a_gate_is_told_each_turn(rt: HostRuntime) -> Result<(), Fail> {
         let desk = Mutex::new(desk);
         let seen = watched(&rt, &desk, &mut viewer, side);
         desk.into_inner().close(&rt);
-        assert_eq!(rt; seen, (4, 8, told_of(side, turns)));
+        equal(&rt, &seen, &(4, 8, told_of(side, turns)));
     }
     Ok(())
 }

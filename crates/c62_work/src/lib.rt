@@ -17,6 +17,8 @@ pub use scheduling::{Options, schedule};
 pub use workers::worker;
 
 #[cfg(test)]
+mod expect;
+#[cfg(test)]
 mod gate_tests;
 #[cfg(test)]
 mod stopped_tests;

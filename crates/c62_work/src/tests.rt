@@ -1,5 +1,6 @@
 //! Worked blocks: steps of both sides in turn, and finishing.
 
+use crate::expect::{equal, equal_in};
 use crate::{FreeGate, Options, finish, schedule, turns};
 use c62_board::{Board, Entry, Spot, Turn, Who};
 use c62_depend::Plan;
@@ -59,7 +60,7 @@ const CYCLES: [u16; 6] = [0, 0, 0, 1, 1, 3];
 /// The plan of the only block of a text.
 fn plan_of(rt: &impl Abort, alloc: Global, text: &str) -> Result<Plan, Fail> {
     let mut blocks = read_program(alloc, text.as_bytes())?.into_blocks();
-    assert_eq!(rt; blocks.len(), 1, "{text}");
+    equal_in(rt, &text, &blocks.len(), &1);
     let block = blocks.pop().expect(rt, "a block");
     match Plan::new(alloc, block) {
         Ok(plan) => Ok(plan),
@@ -80,34 +81,34 @@ fn has_cycles(rt: &impl Abort, board: &Board) {
     for i in 0..6u16 {
         assert!(rt; i < board.plan().len());
         let cycle = board.spot_of(i).map(|spot| spot.cycle);
-        assert_eq!(rt; cycle, Some(CYCLES[i as usize]));
+        equal(rt, &cycle, &Some(CYCLES[i as usize]));
     }
 }
 
 #[test]
 fn both_sides_in_turn(rt: HostRuntime) -> Result<(), Fail> {
     let mut board = board_of(&rt, rt.alloc(), SIX, 1)?;
-    assert_eq!(rt; turns(&mut board), Turn::Done);
+    equal(&rt, &turns(&mut board), &Turn::Done);
     assert!(rt; board.journal() == &JOURNAL[..]);
-    assert_eq!(rt; board.length(), 5);
+    equal(&rt, &board.length(), &5);
     let mut board = board_of(&rt, rt.alloc(), SIX, 0)?;
-    assert_eq!(rt; turns(&mut board), Turn::Done);
+    equal(&rt, &turns(&mut board), &Turn::Done);
     has_cycles(&rt, &board);
-    assert_eq!(rt; board.length(), 5);
+    equal(&rt, &board.length(), &5);
     Ok(())
 }
 
 #[test]
 fn a_needed_blocker_stays(rt: HostRuntime) -> Result<(), Fail> {
     let mut board = board_of(&rt, rt.alloc(), "ADD A2,B1,A3\nMPY A5,B2,A2", 1)?;
-    assert_eq!(rt; turns(&mut board), Turn::Done);
+    equal(&rt, &turns(&mut board), &Turn::Done);
     let journal = [
         Entry::Place(0, Spot { cycle: 0, unit: L1 }, Who::A),
         Entry::Place(1, Spot { cycle: 1, unit: M1 }, Who::A),
     ];
     assert!(rt; board.journal() == &journal[..]);
-    assert_eq!(rt; board.budget(), 1);
-    assert_eq!(rt; board.length(), 3);
+    equal(&rt, &board.budget(), &1);
+    equal(&rt, &board.length(), &3);
     Ok(())
 }
 
@@ -118,8 +119,8 @@ fn finishing_an_empty_board(rt: HostRuntime) -> Result<(), Fail> {
         let board = board_of(&rt, rt.alloc(), text, 2)?;
         let board = finish(rt.alloc(), board, &plan)?;
         has_cycles(&rt, &board);
-        assert_eq!(rt; board.budget(), 2);
-        assert_eq!(rt; board.journal().len(), 6);
+        equal(&rt, &board.budget(), &2);
+        equal(&rt, &board.journal().len(), &6);
         for i in 0..6u16 {
             assert!(rt; usize::from(i) < board.journal().len());
             let entry = board.journal()[usize::from(i)];
@@ -142,7 +143,7 @@ fn finishing_what_a_side_began(rt: HostRuntime) -> Result<(), Fail> {
         Entry::Place(2, Spot { cycle: 2, unit: L1 }, Who::Tail),
     ];
     assert!(rt; board.journal() == &journal[..]);
-    assert_eq!(rt; board.length(), 3);
+    equal(&rt, &board.length(), &3);
     Ok(())
 }
 
@@ -159,10 +160,10 @@ fn longest(alloc: Global) -> Result<String, Fail> {
 fn turns_of_a_chain_of_256(rt: HostRuntime) -> Result<(), Fail> {
     let text = longest(rt.alloc())?;
     let mut board = board_of(&rt, rt.alloc(), &text, 0)?;
-    assert_eq!(rt; turns(&mut board), Turn::Done);
+    equal(&rt, &turns(&mut board), &Turn::Done);
     assert!(rt; board.complete());
-    assert_eq!(rt; board.length(), 256);
-    assert_eq!(rt; board.journal().len(), 256);
+    equal(&rt, &board.length(), &256);
+    equal(&rt, &board.journal().len(), &256);
     Ok(())
 }
 
@@ -173,8 +174,8 @@ fn finishing_a_chain_of_256(rt: HostRuntime) -> Result<(), Fail> {
     let board = board_of(&rt, rt.alloc(), &text, 0)?;
     let board = finish(rt.alloc(), board, &plan)?;
     assert!(rt; board.complete());
-    assert_eq!(rt; board.length(), 256);
-    assert_eq!(rt; board.journal().len(), 256);
+    equal(&rt, &board.length(), &256);
+    equal(&rt, &board.journal().len(), &256);
     Ok(())
 }
 
@@ -211,7 +212,7 @@ fn a_refused_growth_of_turns(rt: HostRuntime) -> Result<(), Fail> {
         let entries = board.journal().len();
         assert!(rt; entries < 10 && entries != 5 && entries != 6);
         assert!(rt; board.journal() == &JOURNAL[..entries]);
-        assert_eq!(rt; turns(&mut board), Turn::Done);
+        equal(&rt, &turns(&mut board), &Turn::Done);
     }
     assert!(rt; board.complete());
     Ok(())

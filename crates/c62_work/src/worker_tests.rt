@@ -2,6 +2,7 @@
 
 ghost use Rattle.std.specs.Prelude.{◌≡◌, IfOk};
 
+use crate::expect::{equal, equal_in};
 use crate::rounds::{serve, serve_two};
 use crate::{FreeGate, Gate, Options, schedule, worker};
 use c62_board::{Board, Entry, Proposal, Spot, Turn, Who};
@@ -29,7 +30,7 @@ const IN_ORDER: &str = "+0@0.D2T +1@0.L2T +2@0.L1T +3@1.L1T +4@1.M1T +5@3.M1T ";
 /// The plan of the only block of a text.
 pub(crate) fn plan_of(rt: &impl Abort, alloc: Global, text: &str) -> Result<Plan, Fail> {
     let mut blocks = read_program(alloc, text.as_bytes())?.into_blocks();
-    assert_eq!(rt; blocks.len(), 1, "{text}");
+    equal_in(rt, &text, &blocks.len(), &1);
     match Plan::new(alloc, blocks.pop().expect(rt, "a block")) {
         Ok(plan) => Ok(plan),
         Err((_, error)) => Err(error.into()),
@@ -152,10 +153,10 @@ fn both_workers_are_at_work(rt: HostRuntime) -> Result<(), Fail> {
         options,
         &gate,
     )?;
-    assert_eq!(rt; gate.met[0].load(Ordering::SeqCst), 1);
-    assert_eq!(rt; gate.met[1].load(Ordering::SeqCst), 1);
+    equal(&rt, &gate.met[0].load(Ordering::SeqCst), &1);
+    equal(&rt, &gate.met[1].load(Ordering::SeqCst), &1);
     let found = journal_text(rt.alloc(), &board)?;
-    assert_eq!(rt; found.as_str(), "+0@0.S1A +1@1.S1A +2@2.L1A ");
+    equal(&rt, &found.as_str(), &"+0@0.S1A +1@1.S1A +2@2.L1A ");
     Ok(())
 }
 
@@ -208,7 +209,7 @@ fn a_gate_holds_a_worker_back(rt: HostRuntime) -> Result<(), Fail> {
     let plan = plan_of(&rt, rt.alloc(), "LDW *A4,A5\nLDW *B4,B6")?;
     let board = schedule(&rt, rt.alloc(), plan, options, &gate)?;
     let found = journal_text(rt.alloc(), &board)?;
-    assert_eq!(rt; found.as_str(), "+1@0.D2B +0@0.D1A ");
+    equal(&rt, &found.as_str(), &"+1@0.D2B +0@0.D1A ");
     Ok(())
 }
 
@@ -224,7 +225,7 @@ fn a_worker_plans_behind_its_gate(rt: HostRuntime) -> Result<(), Fail> {
     let plan = plan_of(&rt, rt.alloc(), "MVK 1,B1\nMPY A2,B1,A3\nMVK 5,A9")?;
     let board = schedule(&rt, rt.alloc(), plan, options, &gate)?;
     let found = journal_text(rt.alloc(), &board)?;
-    assert_eq!(rt; found.as_str(), "+0@0.S2B +1@1.M1A +2@0.S1A ");
+    equal(&rt, &found.as_str(), &"+0@0.S2B +1@1.M1A +2@0.S1A ");
     Ok(())
 }
 
@@ -235,7 +236,7 @@ fn workers_make_their_turns(rt: HostRuntime) -> Result<(), Fail> {
         let desk = Mutex::new(desk);
         let turns = worker(&rt, &desk, &mut viewer, side, 100, &FreeGate);
         desk.into_inner().close(&rt);
-        assert_eq!(rt; turns, made);
+        equal(&rt, &turns, &made);
     }
     Ok(())
 }
@@ -254,7 +255,7 @@ fn rounds_of_a_side(rt: HostRuntime) -> Result<(), Fail> {
         spot: Spot { cycle: 2, unit },
         seen: 2,
     };
-    assert_eq!(rt; last, Some(third));
+    equal(&rt, &last, &Some(third));
     Ok(())
 }
 
@@ -290,10 +291,10 @@ fn a_proposal_for_two_desks(rt: HostRuntime) -> Result<(), Fail> {
     );
     let plans = (own.plan(Side::A), stranger.plan(Side::A));
     let boards = (desk.close(&rt), other.close(&rt));
-    assert_eq!(rt; plans, (Some(on_s1(1)), Some(on_s1(1))));
+    equal(&rt, &plans, &(Some(on_s1(1)), Some(on_s1(1))));
     for board in [&boards.0, &boards.1] {
         let found = journal_text(rt.alloc(), board)?;
-        assert_eq!(rt; found.as_str(), "+0@0.S1T ");
+        equal(&rt, &found.as_str(), &"+0@0.S1T ");
     }
     Ok(())
 }
@@ -313,10 +314,10 @@ fn a_worker_goes_by_its_viewer(rt: HostRuntime) -> Result<(), Fail> {
     let turns = worker(&rt, &desk, &mut viewer, Side::A, 1, &FreeGate);
     let board = desk.into_inner().close(&rt);
     other.close(&rt);
-    assert_eq!(rt; turns, 1);
+    equal(&rt, &turns, &1);
     assert!(rt; own.plan(Side::A).is_none() && viewer.plan(Side::A).is_none());
     let found = journal_text(rt.alloc(), &board)?;
-    assert_eq!(rt; found.as_str(), "+1@0.D1A ");
+    equal(&rt, &found.as_str(), &"+1@0.D1A ");
     Ok(())
 }
 
@@ -343,12 +344,12 @@ fn schedules_are_whole(rt: HostRuntime) -> Result<(), Fail> {
             };
             for i in 0..plan.len() {
                 assert!(rt; i < again.plan().len() && i < board.plan().len());
-                assert_eq!(rt; again.spot_of(i), board.spot_of(i));
+                equal(&rt, &again.spot_of(i), &board.spot_of(i));
             }
             if turns == 0 {
                 let found = journal_text(rt.alloc(), &board)?;
-                assert_eq!(rt; found.as_str(), IN_ORDER);
-                assert_eq!(rt; board.budget(), budget);
+                equal(&rt, &found.as_str(), &IN_ORDER);
+                equal(&rt, &board.budget(), &budget);
             }
         }
     }

@@ -1,6 +1,7 @@
 //! The instruction table of `docs/MACHINE.md`, row by row: each unit takes what its rows say, and refuses all else.
 
 use super::{A1, A2, A3, A4, B1, B2, B4, THREE, access, effect, field};
+use crate::expect::equal_in;
 use c62_insn::{FormFault, Insn};
 use c62_op::{AddressForm, Letter, Offset, Op, Operands, Reg, Side, Unit};
 use std::process::Abort;
@@ -233,18 +234,14 @@ fn check(rt: &impl Abort, op: Op, operands: Operands) {
         let want = is_taken(op, operands, unit);
         any = any || want;
         let written = Insn::new(op, operands, None, Some(unit));
-        assert_eq!(rt; written.is_ok(), want, "{op:?} {operands:?} {unit:?}");
+        equal_in(rt, &(op, operands, unit), &written.is_ok(), &want);
         if let Ok(insn) = bare {
-            assert_eq!(rt;
-                insn.units().has(unit),
-                want,
-                "{op:?} {operands:?} {unit:?}"
-            );
+            equal_in(rt, &(op, operands, unit), &insn.units().has(unit), &want);
         }
     }
-    assert_eq!(rt; bare.is_ok(), any, "{op:?} {operands:?}");
+    equal_in(rt, &(op, operands), &bare.is_ok(), &any);
     let beyond = bare.err() == Some(FormFault::ConstantRange);
-    assert_eq!(rt; beyond, is_beyond(op, operands), "{op:?} {operands:?}");
+    equal_in(rt, &(op, operands), &beyond, &is_beyond(op, operands));
 }
 
 fn check_constants(rt: &impl Abort, op: Op, a: Reg, d: Reg) {
@@ -298,28 +295,28 @@ fn misplaced_sources(rt: HostRuntime) {
             } else {
                 Some(FormFault::NoUnit)
             };
-            assert_eq!(rt; first, want, "{op:?}");
+            equal_in(&rt, &op, &first, &want);
             let second = Insn::new(op, Operands::Three(A1, B2, A3), None, None).err();
             let want = if fixed_second.contains(&op) {
                 side
             } else {
                 None
             };
-            assert_eq!(rt; second, want, "{op:?}");
+            equal_in(&rt, &op, &second, &want);
         }
     }
     for op in [Op::Ext, Op::Extu] {
         let field = field(B1, 8, 8, A2);
-        assert_eq!(rt; Insn::new(op, field, None, None).err(), side, "{op:?}");
+        equal_in(&rt, &op, &Insn::new(op, field, None, None).err(), &side);
     }
     for op in ADDRESSES {
         let constant = Operands::ConstantSecond(B1, 8, A2);
-        assert_eq!(rt; Insn::new(op, constant, None, None).err(), side, "{op:?}");
+        equal_in(&rt, &op, &Insn::new(op, constant, None, None).err(), &side);
     }
     for op in ACCESSES {
         for form in FORMS {
             let offset = access(A1, A4, form, Offset::Register(B2));
-            assert_eq!(rt; Insn::new(op, offset, None, None).err(), side, "{op:?}");
+            equal_in(&rt, &op, &Insn::new(op, offset, None, None).err(), &side);
         }
     }
 }
@@ -336,7 +333,7 @@ fn delays_of_all_operations(rt: HostRuntime) {
         } else {
             0
         };
-        assert_eq!(rt; op.delay(), want, "{op:?}");
+        equal_in(&rt, &op, &op.delay(), &want);
     }
 }
 
@@ -368,7 +365,7 @@ fn results_of_all_operations(rt: HostRuntime) -> Result<(), Fail> {
     ];
     for (op, want) in rows {
         let done = effect(&rt, op, THREE, &[0xdaf0_905b, 0x905e_c193])?;
-        assert_eq!(rt; done.values.as_slice(), [want].as_slice(), "{op:?}");
+        equal_in(&rt, &op, &done.values.as_slice(), &[want].as_slice());
     }
     let compared = [
         (Op::Cmpeq, [0, 0, 1, 0, 0]),
@@ -387,7 +384,7 @@ fn results_of_all_operations(rt: HostRuntime) -> Result<(), Fail> {
         ];
         for (pair, want) in words.into_iter().zip(wants) {
             let done = effect(&rt, op, THREE, &pair)?;
-            assert_eq!(rt; done.values.as_slice(), [want].as_slice(), "{op:?}");
+            equal_in(&rt, &op, &done.values.as_slice(), &[want].as_slice());
         }
     }
     Ok(())
@@ -408,7 +405,7 @@ fn shifts_and_fields(rt: HostRuntime) -> Result<(), Fail> {
     ];
     for (op, operands, reads, want) in rows {
         let done = effect(&rt, op, operands, reads)?;
-        assert_eq!(rt; done.values.as_slice(), [want].as_slice(), "{op:?}");
+        equal_in(&rt, &op, &done.values.as_slice(), &[want].as_slice());
     }
     Ok(())
 }
@@ -425,12 +422,18 @@ fn sizes_of_accesses(rt: HostRuntime) -> Result<(), Fail> {
         };
         let done = effect(&rt, op, up, reads)?;
         let moved = [0x1000 + 3 * u32::from(size)];
-        assert_eq!(rt; done.values.as_slice(), moved.as_slice(), "{op:?}");
-        assert_eq!(rt; done.access.map(|access| access.size), Some(size), "{op:?}");
-        assert_eq!(rt;
-            done.access.map(|access| access.address),
-            Some(0x1000),
-            "{op:?}"
+        equal_in(&rt, &op, &done.values.as_slice(), &moved.as_slice());
+        equal_in(
+            &rt,
+            &op,
+            &done.access.map(|access| access.size),
+            &Some(size),
+        );
+        equal_in(
+            &rt,
+            &op,
+            &done.access.map(|access| access.address),
+            &Some(0x1000),
         );
     }
     Ok(())

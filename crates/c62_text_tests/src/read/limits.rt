@@ -1,6 +1,7 @@
 //! Texts at the limits, and a text with each byte at each index.
 
 use super::check_answer;
+use crate::expect::{equal, equal_in};
 use c62_line::{Cause, ReadFault};
 use c62_read::read_program;
 use std::alloc::{AllocError, Global};
@@ -110,7 +111,7 @@ fn each_byte_at_each_index(rt: HostRuntime) -> Result<(), Fail> {
                 Err(ReadFault { cause, .. }) => cause == Cause::NotAscii,
                 Ok(_) => false,
             };
-            assert_eq!(rt; is_foreign, !allowed && !ends_line, "{byte} at {index}");
+            equal_in(&rt, &(byte, index), &is_foreign, &(!allowed && !ends_line));
         }
         text[index] = kept;
     }
@@ -123,10 +124,10 @@ fn memory_or_the_answer(rt: HostRuntime) -> Result<(), Fail> {
     let text = b"MVK 3,A1\nL: SUB A1,1,A1\n[A1] B L\nM: NOP\nB B3\nN:";
     match read_program(rt.alloc(), text) {
         Ok(program) => {
-            assert_eq!(rt; program.blocks().len(), 4);
+            equal(&rt, &program.blocks().len(), &4);
             for block in program.blocks() {
                 if let Ok(copy) = block.copy(rt.alloc()) {
-                    assert_eq!(rt; copy.insns().len(), block.insns().len());
+                    equal(&rt, &copy.insns().len(), &block.insns().len());
                 }
             }
         }
@@ -135,7 +136,7 @@ fn memory_or_the_answer(rt: HostRuntime) -> Result<(), Fail> {
                 line: 0,
                 cause: Cause::Memory,
             };
-            assert_eq!(rt; fault, want);
+            equal(&rt, &fault, &want);
         }
     }
     Ok(())

@@ -1,6 +1,7 @@
 //! What turns leave on the bells, and whom a call wakes.
 
 use super::{ALONE, ASLEEP, Bell, Bells, QUIET, RUNG};
+use crate::expect::equal;
 use crate::worker_tests::{SUM, desk_on, wait_for};
 use crate::workers::take_turn;
 use c62_insn::Side::{self, A, B};
@@ -102,7 +103,7 @@ fn a_worker_that_ended_is_not_awaited(rt: HostRuntime) -> Result<(), Fail> {
     }
     desk.into_inner().close(&rt);
     bells.second.wait(&rt, long_nap());
-    assert_eq!(rt; words(&bells), (RUNG, ALONE));
+    equal(&rt, &words(&bells), &(RUNG, ALONE));
     Ok(())
 }
 
@@ -147,6 +148,6 @@ fn a_call_wakes(rt: HostRuntime) -> Result<(), Fail> {
             (is_called, is_woken)
         },
     );
-    assert_eq!(rt; seen, (true, true));
+    equal(&rt, &seen, &(true, true));
     Ok(())
 }
