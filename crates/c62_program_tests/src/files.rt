@@ -83,7 +83,7 @@ const LISTING: &str = "   MVK .S1 5,A1\n";
 const REPORT: &str = "blocks 1\nexit end\nA1 00000005\nA2 00000003\n";
 
 /// Words, standard input, and the output, what is told and the status.
-const RUNS: [(&[&str], &[u8], &str, &str, u8); 60] = [
+const RUNS: [(&[&str], &[u8], &str, &str, u8); 31] = [
     (&["pack", "--turns", "first.s"], b"FOO", LISTING, "", 0),
     (&["pack", "first.s", "--eject", "3"], b"FOO", LISTING, "", 0),
     (&["pack", "-"], b"MVK 5,A1", LISTING, "", 0),
@@ -249,6 +249,10 @@ const RUNS: [(&[&str], &[u8], &str, &str, u8); 60] = [
         "error: the argument '--blocks <N>' cannot be used multiple times\n\nUsage: c62 serial [--apart <REG,REG,..>] [--blocks <N>] [--profile] [--strict] [-o <FILE>] [FILE] [SETTING]...\n\nFor more information, try '--help'.\n",
         2,
     ),
+];
+
+/// Runs with the bytes of files in memory, or of memory in files, and those that print memory.
+const IN_MEMORY: [(&[&str], &[u8], &str, &str, u8); 29] = [
     // the bytes of a file in memory: they apply in the order of the words, and a later byte stands
     (
         &["serial", "-", "@8=-1", "--load", "8=three"],
@@ -662,6 +666,15 @@ fn runs<H: AllocGlobal + Threads + Wait + Abort + Sync>(
 fn files_that_are_read(rt: HostRuntime) -> Result<(), Fail> {
     let mut shelf = filled_shelf(rt.alloc(), false)?;
     for (words, input, output, errors, status) in &RUNS {
+        runs(&rt, &mut shelf, words, input, (*output, *errors, *status));
+    }
+    Ok(())
+}
+
+#[test]
+fn memory_and_files(rt: HostRuntime) -> Result<(), Fail> {
+    let mut shelf = filled_shelf(rt.alloc(), false)?;
+    for (words, input, output, errors, status) in &IN_MEMORY {
         runs(&rt, &mut shelf, words, input, (*output, *errors, *status));
     }
     Ok(())

@@ -47,7 +47,7 @@ const TWICE: &str = "  add .l1 a1,a2,a3\n||  sub .l1 a4,a5,a6\n";
 const STORED: &str = "MVK 256,A4\nMVK 4,A1\nL: LDW *A4++,A2\nSTW A2,*B4++\nSUB A1,1,A1\n[A1] B L\n";
 
 /// Words, standard input, and the output, what is told and the status.
-const RUNS: [(&[&str], &str, &str, &str, u8); 52] = [
+const RUNS: [(&[&str], &str, &str, &str, u8); 36] = [
     (&["lint"], "MVK 1,A1\n", "", "", 0),
     (&["lint"], " FOO\n", UNKNOWN, "", 1),
     (&["lint", "--most", "1"], " FOO\n BAR\n", UNKNOWN, "", 1),
@@ -190,6 +190,49 @@ const RUNS: [(&[&str], &str, &str, &str, u8); 52] = [
         "text line 1: UnknownMnemonic\n --> -:1:1\n1 | FOO\n  | ^^^ a mnemonic is wanted here\n",
         1,
     ),
+    // nothing is explained where only `--strict` stands
+    (
+        &["run", "--strict"],
+        " FOO\n",
+        "",
+        "line 1: UnknownMnemonic\n",
+        1,
+    ),
+    (
+        &["serial", "--strict", "A1=zz"],
+        "",
+        "",
+        "setting 1: bad\n",
+        2,
+    ),
+    (
+        &["explain", "p2"],
+        "",
+        "P2: two instructions of one cycle use one cross path\nexample: ADD .L1X A1,B1,A2 and SUB .S1X A3,B3,A4\nsee docs/MACHINE.md\n",
+        "",
+        0,
+    ),
+    (
+        &["explain", "NoListing"],
+        "",
+        "NoListing: what is to be checked has no line `---`, and so no listing\nsee docs/CHECK.md\n",
+        "",
+        0,
+    ),
+    (
+        &["explain", "P6"],
+        "",
+        "",
+        "error: P6 is no fault and no rule: docs/FAULTS.md has them\n",
+        2,
+    ),
+    (&["explain"], "", "", EXPLAIN, 2),
+    (&["help", "lint"], "", LINT, "", 0),
+    (&["help", "explain"], "", EXPLAIN, "", 0),
+];
+
+/// Runs behind whose reports more is told.
+const BEHIND_REPORTS: [(&[&str], &str, &str, &str, u8); 16] = [
     // each line's first access that faults, behind the report
     (
         &["serial", "--strict", "A4=1"],
@@ -318,45 +361,6 @@ const RUNS: [(&[&str], &str, &str, &str, u8); 52] = [
         "apart: bad\n",
         2,
     ),
-    // nothing is explained where only `--strict` stands
-    (
-        &["run", "--strict"],
-        " FOO\n",
-        "",
-        "line 1: UnknownMnemonic\n",
-        1,
-    ),
-    (
-        &["serial", "--strict", "A1=zz"],
-        "",
-        "",
-        "setting 1: bad\n",
-        2,
-    ),
-    (
-        &["explain", "p2"],
-        "",
-        "P2: two instructions of one cycle use one cross path\nexample: ADD .L1X A1,B1,A2 and SUB .S1X A3,B3,A4\nsee docs/MACHINE.md\n",
-        "",
-        0,
-    ),
-    (
-        &["explain", "NoListing"],
-        "",
-        "NoListing: what is to be checked has no line `---`, and so no listing\nsee docs/CHECK.md\n",
-        "",
-        0,
-    ),
-    (
-        &["explain", "P6"],
-        "",
-        "",
-        "error: P6 is no fault and no rule: docs/FAULTS.md has them\n",
-        2,
-    ),
-    (&["explain"], "", "", EXPLAIN, 2),
-    (&["help", "lint"], "", LINT, "", 0),
-    (&["help", "explain"], "", EXPLAIN, "", 0),
 ];
 
 /// Runs the words. What they answer is wanted.
@@ -382,6 +386,14 @@ fn runs<H: AllocGlobal + Threads + Wait + Abort + Sync>(
 #[test]
 fn faults_are_told(rt: HostRuntime) -> Result<(), Fail> {
     for (words, input, output, errors, status) in &RUNS {
+        runs(&rt, words, input, (*output, *errors, *status));
+    }
+    Ok(())
+}
+
+#[test]
+fn more_is_told_behind_reports(rt: HostRuntime) -> Result<(), Fail> {
+    for (words, input, output, errors, status) in &BEHIND_REPORTS {
         runs(&rt, words, input, (*output, *errors, *status));
     }
     Ok(())

@@ -10,6 +10,7 @@ mod check;
 mod exec;
 #[cfg(test)]
 mod expect;
+#[cfg(test)]
 mod loops;
 #[cfg(test)]
 mod show;

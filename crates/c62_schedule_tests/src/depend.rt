@@ -330,7 +330,7 @@ fn direct_dependences(rt: HostRuntime) -> Result<(), Fail> {
     for (text, want) in &DIRECT {
         let plan = plan_of(&rt, rt.alloc(), text)?;
         let found = followers(rt.alloc(), &plan)?;
-        equal_in(&rt, &text, &found.as_str(), want);
+        assert_eq!(rt; found.as_str(), *want, "{text}");
         equal_in(
             &rt,
             &text,
