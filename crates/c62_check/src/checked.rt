@@ -78,7 +78,7 @@ fn is_same_block(listed: Option<&PacketBlock>, block: Option<&Block>) -> bool
 }
 
 /// The number of the first block that differs in its label, or that only one of the two has.
-fn first_other(blocks: &[Block], packets: &[PacketBlock]) -> Option<usize>
+pub fn first_other(blocks: &[Block], packets: &[PacketBlock]) -> Option<usize>
     requires blocks { length blocks.now ≤ MOST_BLOCKS }
     requires packets { length packets.now ≤ MOST_BLOCKS }
     ensures { MatchOption result (labels_of packets.now ≡ labels_in blocks.now) (IsFirstOther blocks.now packets.now) }

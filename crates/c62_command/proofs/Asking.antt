@@ -1,7 +1,7 @@
 -- What words ask for.
 use Rattle.std.proofs.Common.{◌≡◌, ◌≢◌, ◌∙◌, ℕ, Bool, true, false, List, [], ◌∷◌, length, map}
 use Rattle.std.proofs.Common.{Option, Some, None, option_map}
-use Rattle.std.proofs.Common.{refl, ap, arith}
+use Rattle.std.proofs.Common.{refl, ap, sym, arith}
 use Rattle.std.specs.Prelude.{codes, if◌then◌else◌}
 use Rattle.std.specs.Str.{bytes_eq}
 use Rattle.c62_op.specs.declared.register.Reg.{Reg}
@@ -14,6 +14,8 @@ use Rattle.c62_command.specs.Promises.{IsBadPromise, all_trips, apart_of, trips_
 use Rattle.c62_command.proofs.PromiseLemmas.{none_said}
 use Rattle.c62_command.specs.CommandLine.{Ask, Listing, HasBadPromise, HasBadPromiseIn, HasBadSetting, HasFirstBad}
 use Rattle.c62_command.specs.CommandLine.{IsRefusal, IsRefusalIn, IsUnknown, Adoption, loops_asked, ask_in, asked}
+use Rattle.c62_command.specs.CommandLine.{rendered, rendering_in, rendering_of, what_in}
+use Rattle.c62_command.specs.declared.command.Rendering.{Rendering}
 use Rattle.c62_command.specs.CommandLine.{check_asked, is_set, plain_asked, plain_packing}
 use Rattle.c62_command.specs.CommandLine.{packing_of, promised_asked, reaching, report_asked, serial_asked}
 use Rattle.c62_command.specs.CommandLine.{show_asked, takes_apart}
@@ -51,7 +53,7 @@ no_settings rows k bad =
     let base : ℕ = base_among (setting_words rows) in
     ap (settings_from base) bad.whole ∙ none_of base bad.before bad.text bad.after bad.bad
 
-nothing_in : (found : Option (Text × List Row)) (k : ℕ) → HasFirstBad found k → ask_in found ≡ None
+nothing_in : (found : Option (Text × List Row)) (k : ℕ) → HasFirstBad found k → what_in found ≡ None
 nothing_in None k e = absurd e
 nothing_in (Some (name, rows)) k e =
     rw (e.0.3, e.0.2) (go (is_set (codes "pipeline") rows) (all_trips (trips_words rows)) (apart_of rows))
@@ -128,7 +130,7 @@ nothing_plain name rows bad why =
     go false false false e = absurd cc
     go false false true e = nothing_serial rows bad why
 
-no_loops_in : (found : Option (Text × List Row)) (bad : BadPromise) → HasBadPromiseIn found bad → ask_in found ≡ None
+no_loops_in : (found : Option (Text × List Row)) (bad : BadPromise) → HasBadPromiseIn found bad → what_in found ≡ None
 no_loops_in None bad e = absurd e
 no_loops_in (Some (name, rows)) bad e = go (bytes_eq name (codes "check")) (bytes_eq name (codes "adopt")) e.takes
   where
@@ -157,12 +159,27 @@ no_loops_in (Some (name, rows)) bad e = go (bytes_eq name (codes "check")) (byte
     go false true is = absurd cc
     go false false is = last pipeline is
 
+-- what no words ask for
+pub none_told : (found : Option (Text × List Row)) (ask : Ask) → found ≡ None → ask ≡ Listing plain_packing
+    → ask_in found ≡ Some ask
+unfolding ask_in
+none_told found ask none is = rw (none, is) refl
+
+-- what a subcommand asks for, told so
+pub told_so : (name : Text) (rows : List Row) (ask : Ask) (rendering : Rendering) → what_in (Some (name, rows)) ≡ Some ask
+    → rendering ≡ rendering_of rows → ask_in (Some (name, rows)) ≡ Some (rendered rendering ask)
+unfolding ask_in
+told_so name rows ask rendering is same =
+    ap (option_map (rendered (rendering_of rows))) is
+    ∙ ap (λ (r : Rendering). Some (rendered r ask)) (sym same)
+
 pub asked-bad-promise : (words : List Text) (bad : BadPromise) → HasBadPromise words bad → asked words ≡ None
-unfolding asked
+unfolding asked ask_in
 asked-bad-promise [] bad e = absurd (omega (arith, e.0))
 asked-bad-promise (word ∷ words) bad e =
     ap (λ (kinds : Kinds). unless_fault kinds (ask_in (subcommand_of tool_app (word ∷ words)))) e.1
-    ∙ no_loops_in (subcommand_of tool_app (word ∷ words)) bad e.2
+    ∙ ap (option_map (rendered (rendering_in (subcommand_of tool_app (word ∷ words)))))
+    (no_loops_in (subcommand_of tool_app (word ∷ words)) bad e.2)
 
 -- why a subcommand asks for nothing is why the words do
 pub refused_in : {W : Type 0} (text : W → Text) (words : List W) (error : CommandError) → length words ≢ 0
@@ -175,8 +192,9 @@ refused_in text (word ∷ words) (refused.Promise bad) some taken is = (omega ar
 refused_in text (word ∷ words) refused.Memory some taken is = tt
 
 pub asked-bad : (words : List Text) (k : ℕ) → HasBadSetting words k → asked words ≡ None
-unfolding asked
+unfolding asked ask_in
 asked-bad [] k e = absurd (omega (arith, e.0))
 asked-bad (word ∷ words) k e =
     ap (λ (kinds : Kinds). unless_fault kinds (ask_in (subcommand_of tool_app (word ∷ words)))) e.1
-    ∙ nothing_in (subcommand_of tool_app (word ∷ words)) k e.2
+    ∙ ap (option_map (rendered (rendering_in (subcommand_of tool_app (word ∷ words)))))
+    (nothing_in (subcommand_of tool_app (word ∷ words)) k e.2)

@@ -79,59 +79,59 @@ number_in least most e = ((λ count. absurd cc), values_pass false (parser.Signe
 
 blocks_checked : Each (AreChecked (codes "blocks") IsBlocks) (built tool_app).subs
 blocks_checked =
-    (other ⨾ other ⨾ other ⨾ other ⨾ other ⨾ other ⨾ other ⨾ other ⨾ other ⨾ tt)
-    ⨾ (other ⨾ other ⨾ other ⨾ other ⨾ other ⨾ other ⨾ other ⨾ other ⨾ other ⨾ other ⨾ other ⨾ other ⨾ other ⨾ tt)
+    (other ⨾ other ⨾ other ⨾ other ⨾ other ⨾ other ⨾ other ⨾ other ⨾ other ⨾ other ⨾ tt)
+    ⨾ (other ⨾ other ⨾ other ⨾ other ⨾ other ⨾ other ⨾ other ⨾ other ⨾ other ⨾ other ⨾ other ⨾ other ⨾ other ⨾ other ⨾ tt)
     ⨾ (other ⨾ other ⨾ other ⨾ other ⨾ other ⨾ other ⨾ other ⨾ other ⨾ other ⨾ number_in 1 1000000 ⨾ other
-    ⨾ other ⨾ other ⨾ other ⨾ tt)
-    ⨾ (other ⨾ number_in 1 1000000 ⨾ other ⨾ other ⨾ other ⨾ other ⨾ tt)
-    ⨾ (other ⨾ number_in 1 1000000 ⨾ other ⨾ other ⨾ other ⨾ other ⨾ tt)
-    ⨾ (other ⨾ other ⨾ other ⨾ other ⨾ other ⨾ other ⨾ other ⨾ tt)
-    ⨾ (other ⨾ other ⨾ other ⨾ tt)
-    ⨾ (other ⨾ other ⨾ other ⨾ other ⨾ other ⨾ tt)
+    ⨾ other ⨾ other ⨾ other ⨾ other ⨾ tt)
+    ⨾ (other ⨾ number_in 1 1000000 ⨾ other ⨾ other ⨾ other ⨾ other ⨾ other ⨾ tt)
+    ⨾ (other ⨾ number_in 1 1000000 ⨾ other ⨾ other ⨾ other ⨾ other ⨾ other ⨾ tt)
+    ⨾ (other ⨾ other ⨾ other ⨾ other ⨾ other ⨾ other ⨾ other ⨾ other ⨾ tt)
+    ⨾ (other ⨾ other ⨾ other ⨾ other ⨾ tt)
+    ⨾ (other ⨾ other ⨾ other ⨾ other ⨾ other ⨾ other ⨾ tt)
     ⨾ (other ⨾ tt)
     ⨾ tt
 
 eject_checked : Each (AreChecked (codes "eject") IsBudget) (built tool_app).subs
 eject_checked =
-    (other ⨾ number_in 0 1000 ⨾ other ⨾ other ⨾ other ⨾ other ⨾ other ⨾ other ⨾ other ⨾ tt)
-    ⨾ (other ⨾ number_in 0 1000 ⨾ other ⨾ other ⨾ other ⨾ other ⨾ other ⨾ other ⨾ other ⨾ other ⨾ other ⨾ other
-    ⨾ other ⨾ tt)
+    (other ⨾ number_in 0 1000 ⨾ other ⨾ other ⨾ other ⨾ other ⨾ other ⨾ other ⨾ other ⨾ other ⨾ tt)
     ⨾ (other ⨾ number_in 0 1000 ⨾ other ⨾ other ⨾ other ⨾ other ⨾ other ⨾ other ⨾ other ⨾ other ⨾ other ⨾ other
     ⨾ other ⨾ other ⨾ tt)
-    ⨾ (other ⨾ other ⨾ other ⨾ other ⨾ other ⨾ other ⨾ tt)
-    ⨾ (other ⨾ other ⨾ other ⨾ other ⨾ other ⨾ other ⨾ tt)
+    ⨾ (other ⨾ number_in 0 1000 ⨾ other ⨾ other ⨾ other ⨾ other ⨾ other ⨾ other ⨾ other ⨾ other ⨾ other ⨾ other
+    ⨾ other ⨾ other ⨾ other ⨾ tt)
     ⨾ (other ⨾ other ⨾ other ⨾ other ⨾ other ⨾ other ⨾ other ⨾ tt)
-    ⨾ (other ⨾ other ⨾ other ⨾ tt)
-    ⨾ (other ⨾ other ⨾ other ⨾ other ⨾ other ⨾ tt)
+    ⨾ (other ⨾ other ⨾ other ⨾ other ⨾ other ⨾ other ⨾ other ⨾ tt)
+    ⨾ (other ⨾ other ⨾ other ⨾ other ⨾ other ⨾ other ⨾ other ⨾ other ⨾ tt)
+    ⨾ (other ⨾ other ⨾ other ⨾ other ⨾ tt)
+    ⨾ (other ⨾ other ⨾ other ⨾ other ⨾ other ⨾ other ⨾ tt)
     ⨾ (other ⨾ tt)
     ⨾ tt
 
 cycles_checked : Each (AreChecked (codes "cycles") IsCycles) (built tool_app).subs
 cycles_checked =
-    (other ⨾ other ⨾ other ⨾ other ⨾ other ⨾ other ⨾ other ⨾ other ⨾ other ⨾ tt)
-    ⨾ (other ⨾ other ⨾ other ⨾ other ⨾ other ⨾ other ⨾ other ⨾ other ⨾ other ⨾ other ⨾ other ⨾ other ⨾ other ⨾ tt)
+    (other ⨾ other ⨾ other ⨾ other ⨾ other ⨾ other ⨾ other ⨾ other ⨾ other ⨾ other ⨾ tt)
+    ⨾ (other ⨾ other ⨾ other ⨾ other ⨾ other ⨾ other ⨾ other ⨾ other ⨾ other ⨾ other ⨾ other ⨾ other ⨾ other ⨾ other ⨾ tt)
     ⨾ (other ⨾ other ⨾ other ⨾ other ⨾ other ⨾ other ⨾ other ⨾ other ⨾ number_in 1 1000000000 ⨾ other ⨾ other
-    ⨾ other ⨾ other ⨾ other ⨾ tt)
+    ⨾ other ⨾ other ⨾ other ⨾ other ⨾ tt)
+    ⨾ (other ⨾ other ⨾ other ⨾ other ⨾ other ⨾ other ⨾ other ⨾ tt)
+    ⨾ (other ⨾ other ⨾ other ⨾ other ⨾ other ⨾ other ⨾ other ⨾ tt)
+    ⨾ (number_in 1 1000000000 ⨾ other ⨾ other ⨾ other ⨾ other ⨾ other ⨾ other ⨾ other ⨾ tt)
+    ⨾ (other ⨾ other ⨾ other ⨾ other ⨾ tt)
     ⨾ (other ⨾ other ⨾ other ⨾ other ⨾ other ⨾ other ⨾ tt)
-    ⨾ (other ⨾ other ⨾ other ⨾ other ⨾ other ⨾ other ⨾ tt)
-    ⨾ (number_in 1 1000000000 ⨾ other ⨾ other ⨾ other ⨾ other ⨾ other ⨾ other ⨾ tt)
-    ⨾ (other ⨾ other ⨾ other ⨾ tt)
-    ⨾ (other ⨾ other ⨾ other ⨾ other ⨾ other ⨾ tt)
     ⨾ (other ⨾ tt)
     ⨾ tt
 
 search_checked : Each (AreChecked (codes "search") IsChoices) (built tool_app).subs
 search_checked =
-    (other ⨾ other ⨾ other ⨾ number_in 0 10000 ⨾ other ⨾ other ⨾ other ⨾ other ⨾ other ⨾ tt)
-    ⨾ (other ⨾ other ⨾ other ⨾ number_in 0 10000 ⨾ other ⨾ other ⨾ other ⨾ other ⨾ other ⨾ other ⨾ other ⨾ other
-    ⨾ other ⨾ tt)
+    (other ⨾ other ⨾ other ⨾ number_in 0 10000 ⨾ other ⨾ other ⨾ other ⨾ other ⨾ other ⨾ other ⨾ tt)
     ⨾ (other ⨾ other ⨾ other ⨾ number_in 0 10000 ⨾ other ⨾ other ⨾ other ⨾ other ⨾ other ⨾ other ⨾ other ⨾ other
     ⨾ other ⨾ other ⨾ tt)
-    ⨾ (other ⨾ other ⨾ other ⨾ other ⨾ other ⨾ other ⨾ tt)
-    ⨾ (other ⨾ other ⨾ other ⨾ other ⨾ other ⨾ other ⨾ tt)
+    ⨾ (other ⨾ other ⨾ other ⨾ number_in 0 10000 ⨾ other ⨾ other ⨾ other ⨾ other ⨾ other ⨾ other ⨾ other ⨾ other
+    ⨾ other ⨾ other ⨾ other ⨾ tt)
     ⨾ (other ⨾ other ⨾ other ⨾ other ⨾ other ⨾ other ⨾ other ⨾ tt)
-    ⨾ (other ⨾ other ⨾ other ⨾ tt)
-    ⨾ (other ⨾ other ⨾ other ⨾ other ⨾ other ⨾ tt)
+    ⨾ (other ⨾ other ⨾ other ⨾ other ⨾ other ⨾ other ⨾ other ⨾ tt)
+    ⨾ (other ⨾ other ⨾ other ⨾ other ⨾ other ⨾ other ⨾ other ⨾ other ⨾ tt)
+    ⨾ (other ⨾ other ⨾ other ⨾ other ⨾ tt)
+    ⨾ (other ⨾ other ⨾ other ⨾ other ⨾ other ⨾ other ⨾ tt)
     ⨾ (other ⨾ tt)
     ⨾ tt
 

@@ -4,7 +4,7 @@ use Rattle.std.specs.Str.{bytes_eq}
 use Rattle.std.specs.Str.Parse.{digits_value, signed_digits_value, without_leading_plus}
 use Rattle.std.specs.Option.{option_map_or}
 use Rattle.clap.specs.Words.{App, Kinds, Row, Rule, Text, all_of, first_of, new_app, new_rule, with_rule, with_subcommand, fault_of, found_of, kind_of, rows_of, subcommand_of}
-use Rattle.clap.specs.declared.builder.command.Command.{Command}
+use Rattle.clap.specs.declared.builder.command.Command.{Command as ClapCommand}
 use Rattle.clap.specs.declared.builder.command.Command.TheViews.{out-Command}
 use Rattle.clap.specs.declared.parser.matches.ArgMatches.{ArgMatches}
 use Rattle.clap.specs.declared.error.Error.{Error}
@@ -20,6 +20,9 @@ use Rattle.c62_command.specs.declared.command.Packing.{Packing}
 use Rattle.c62_command.specs.declared.command.Showing.{Showing}
 use Rattle.c62_command.specs.declared.command.Course.{Course}
 use Rattle.c62_command.specs.declared.flight.FlightCourse.{FlightCourse}
+use Rattle.c62_command.specs.declared.command.Command.{Command}
+use Rattle.c62_command.specs.declared.command.Rendering.{Rendering}
+use Rattle.c62_command.specs.declared.command.Rendering.TheVariants.{Text as InText, Json as InJson}
 use Rattle.c62_command.specs.declared.command.Form.{Form}
 use Rattle.c62_command.specs.declared.command.Form.TheVariants.{Listed, Written}
 use Rattle.c62_command.specs.declared.command.CommandError.{CommandError}
@@ -35,7 +38,7 @@ use Rattle.c62_command.specs.declared.promise.PromiseError.TheVariants as no_pro
 -- ---- what clap takes
 
 -- no argument of a command is also one of its subcommands
-abbrev pub IsLocal : Command → Type 0
+abbrev pub IsLocal : ClapCommand → Type 0
 IsLocal command = (out-Command command).has_globals ≡ false
 
 -- `--turns`
@@ -102,6 +105,10 @@ profile_rule = record (new_rule (codes "profile")) { long = Some (codes "profile
 abbrev pub strict_rule : Rule
 strict_rule = record (new_rule (codes "strict")) { long = Some (codes "strict"); action = Some SetTrue }
 
+-- `--json`
+abbrev pub json_rule : Rule
+json_rule = record (new_rule (codes "json")) { long = Some (codes "json"); action = Some SetTrue }
+
 -- `[SETTING]..`
 abbrev pub settings_rule : Rule
 settings_rule = record (new_rule (codes "settings")) { value_names = 1; action = Some Append }
@@ -110,7 +117,7 @@ abbrev pub with_packing : App → App
 with_packing app = with_rule (with_rule (with_rule (with_rule app turns_rule) eject_rule) shortest_rule) search_rule
 
 abbrev pub with_report : App → App
-with_report app = with_rule (with_rule (with_rule app profile_rule) strict_rule) settings_rule
+with_report app = with_rule (with_rule (with_rule (with_rule app profile_rule) strict_rule) json_rule) settings_rule
 
 abbrev pub with_start : App → App
 with_start app = with_report (with_rule app blocks_rule)
@@ -150,41 +157,41 @@ with_told_pipeline app = with_rule (with_pipeline app) verbose_rule
 abbrev pub with_pipelined_run : App → App
 with_pipelined_run app = with_rule (with_told_pipeline app) cycles_rule
 
--- `pack [--turns] [--eject N] [--shortest] [--search N] [--pipeline] [--trips L=N].. [--apart REG,REG,..] [--verbose]`
+-- `pack [--turns] [--eject N] [--shortest] [--search N] [--pipeline] [--trips L=N].. [--apart REG,REG,..] [--verbose] [--json]`
 abbrev pub pack_app : App
-pack_app = with_told_pipeline (with_packing (new_app (codes "pack")))
+pack_app = with_rule (with_told_pipeline (with_packing (new_app (codes "pack")))) json_rule
 
 abbrev pub with_forms : App → App
 with_forms app = with_rule (with_rule app listing_rule) packets_rule
 
 abbrev pub with_details : App → App
-with_details app = with_rule (with_rule (with_rule app why_rule) registers_rule) summary_rule
+with_details app = with_rule (with_rule (with_rule (with_rule app why_rule) registers_rule) summary_rule) json_rule
 
 -- `show [--turns] [--eject N] [--shortest] [--search N] [--pipeline] [--trips L=N].. [--apart REG,REG,..] [--listing] [--packets] [--why]
--- [--registers] [--summary]`
+-- [--registers] [--summary] [--json]`
 abbrev pub show_app : App
 show_app = with_details (with_forms (with_pipeline (with_packing (new_app (codes "show")))))
 
 -- `run [--turns] [--eject N] [--shortest] [--search N] [--pipeline] [--trips L=N].. [--apart REG,REG,..] [--verbose] [--cycles N] [--blocks N]
--- [--profile] [--strict] [SETTING]..`
+-- [--profile] [--strict] [--json] [SETTING]..`
 abbrev pub run_app : App
 run_app = with_start (with_pipelined_run (with_packing (new_app (codes "run"))))
 
--- `serial [--apart REG,REG,..] [--blocks N] [--profile] [--strict] [SETTING]..`
+-- `serial [--apart REG,REG,..] [--blocks N] [--profile] [--strict] [--json] [SETTING]..`
 abbrev pub serial_app : App
 serial_app = with_start (with_rule (new_app (codes "serial")) apart_rule)
 
--- `sim [--packets] [--blocks N] [--profile] [--strict] [SETTING]..`
+-- `sim [--packets] [--blocks N] [--profile] [--strict] [--json] [SETTING]..`
 abbrev pub sim_app : App
 sim_app = with_start (with_rule (new_app (codes "sim")) packets_rule)
 
--- `exec [--cycles N] [--from NAME] [--alone] [--profile] [--strict] [SETTING]..`
+-- `exec [--cycles N] [--from NAME] [--alone] [--profile] [--strict] [--json] [SETTING]..`
 abbrev pub exec_app : App
 exec_app = with_flight (new_app (codes "exec"))
 
--- `adopt [--from NAME] [--drain]`
+-- `adopt [--from NAME] [--drain] [--json]`
 abbrev pub adopt_app : App
-adopt_app = with_rule (with_rule (new_app (codes "adopt")) from_rule) drain_rule
+adopt_app = with_rule (with_rule (with_rule (new_app (codes "adopt")) from_rule) drain_rule) json_rule
 
 -- `--loops`
 abbrev pub loops_rule : Rule
@@ -193,9 +200,9 @@ loops_rule = record (new_rule (codes "loops")) { long = Some (codes "loops"); ac
 abbrev pub with_loops : App → App
 with_loops app = with_promises (with_rule app loops_rule)
 
--- `check [--packets] [--loops] [--trips L=N].. [--apart REG,REG,..]`
+-- `check [--packets] [--loops] [--trips L=N].. [--apart REG,REG,..] [--json]`
 abbrev pub check_app : App
-check_app = with_loops (with_rule (new_app (codes "check")) packets_rule)
+check_app = with_rule (with_loops (with_rule (new_app (codes "check")) packets_rule)) json_rule
 
 abbrev pub bare_app : App
 bare_app = let new = new_app (codes "c62") in record new { top = record new.top { no_binary_name = true; subcommand_required = true } }
@@ -252,6 +259,8 @@ pub data Ask : Type 0 where
   LoopPicture : Packing → (trips : List (Text × ℕ)) → (apart : List Reg) → Ask
   -- the report of a run of such packets on this course, from a state with these settings; and what became of each loop
   LoopReport : (verbose : Bool) → Packing → (trips : List (Text × ℕ)) → (apart : List Reg) → FlightCourse → List Setting → Ask
+  -- what such an answer tells, as a document
+  Document : Ask → Ask
 
 -- where a label is named, what is asked of that which is taken from there on
 abbrev pub reaching : Option Text → Ask → Ask
@@ -279,6 +288,15 @@ ask_of (ShowLoops looping) = LoopPicture looping.packing (map trips_of looping.p
 ask_of (RunLoops looping flight) =
     LoopReport looping.verbose looping.packing (map trips_of looping.promises.trips.items) looping.promises.apart.items flight.course
     flight.settings.items
+
+-- what is asked for, told so
+abbrev pub rendered : Rendering → Ask → Ask
+rendered InText ask = ask
+rendered InJson ask = Document ask
+
+-- what a command asks for
+abbrev pub ask_told : Command → Ask
+ask_told command = rendered command.rendering (ask_of command.request)
 
 -- a flag was set
 abbrev pub is_set : Text → List Row → Bool
@@ -410,14 +428,26 @@ plain_asked name rows =
     else (if bytes_eq name (codes "serial") then serial_asked rows (all_trips (trips_words rows)) (apart_of rows)
     else option_map (report_asked name rows) (settings_of (setting_words rows))))
 
--- what the subcommand's name and what was found for its arguments ask for, where the settings and promises are good
-abbrev pub ask_in : Option (Text × List Row) → Option Ask
-ask_in None = Some (Listing plain_packing)
-ask_in (Some (name, rows)) =
+-- what the subcommand's name and what was found for its arguments ask for, where the settings and promises are good, whatever it is told in
+abbrev pub what_in : Option (Text × List Row) → Option Ask
+what_in None = Some (Listing plain_packing)
+what_in (Some (name, rows)) =
     if bytes_eq name (codes "check") then check_asked rows
     else (if bytes_eq name (codes "adopt") then Some (reaching (first_of (codes "from") rows) (Adoption (is_set (codes "drain") rows)))
     else (if is_set (codes "pipeline") rows then promised_asked name rows (all_trips (trips_words rows)) (apart_of rows)
     else plain_asked name rows))
+
+-- how it is told, by the options of a subcommand
+abbrev pub rendering_of : List Row → Rendering
+rendering_of rows = if is_set (codes "json") rows then InJson else InText
+
+abbrev pub rendering_in : Option (Text × List Row) → Rendering
+rendering_in None = InText
+rendering_in (Some (name, rows)) = rendering_of rows
+
+-- what is asked for, and how it is told
+unfoldable pub ask_in : Option (Text × List Row) → Option Ask
+ask_in found = option_map (rendered (rendering_in found)) (what_in found)
 
 abbrev pub unless_fault : Kinds → Option Ask → Option Ask
 unless_fault [] ask = ask

@@ -2,7 +2,7 @@
 
 ghost use Rattle.std.specs.Prelude.{◌≡◌, IfOk, false};
 ghost use Rattle.clap.specs.Words.{app_of, rule_of};
-ghost use Rattle.c62_command.specs.CommandLine.{turns_rule, eject_rule, blocks_rule, settings_rule, cycles_rule, from_rule, alone_rule, drain_rule, why_rule, registers_rule, listing_rule, packets_rule, with_forms, pack_app, show_app, run_app, serial_app, sim_app, exec_app, adopt_app, check_app, bare_app, listing_app, packing_app, running_app, tool_app, with_packing, with_start, IsLocal, profile_rule, strict_rule, with_reach, with_flight, summary_rule, with_details, shortest_rule, search_rule, verbose_rule, with_pipelined_run, with_told_pipeline, with_report};
+ghost use Rattle.c62_command.specs.CommandLine.{turns_rule, eject_rule, blocks_rule, settings_rule, cycles_rule, from_rule, alone_rule, drain_rule, why_rule, registers_rule, listing_rule, packets_rule, with_forms, pack_app, show_app, run_app, serial_app, sim_app, exec_app, adopt_app, check_app, bare_app, listing_app, packing_app, running_app, tool_app, with_packing, with_start, IsLocal, profile_rule, strict_rule, with_reach, with_flight, summary_rule, with_details, shortest_rule, search_rule, verbose_rule, json_rule, with_pipelined_run, with_told_pipeline, with_report};
 
 use crate::checking::{apart_option, with_loops, with_pipeline};
 use clap::{Arg, ArgAction, Command, value_parser};
@@ -219,6 +219,16 @@ fn strict_flag<'a>(alloc: Global) -> Arg<'a>
         .help("Ends with status 7 where an access faults, and else with 6 at the limit")
 }
 
+fn json_flag<'a>(alloc: Global) -> Arg<'a>
+    ensures rule { rule_of result ≡ json_rule }
+    ensures local { result.global ≡ false }
+{
+    Arg::new(alloc, "json")
+        .long("json")
+        .action(ArgAction::SetTrue)
+        .help("Writes the same as a JSON document")
+}
+
 fn settings_words<'a>(alloc: Global) -> Arg<'a>
     ensures rule { rule_of result ≡ settings_rule }
     ensures local { result.global ≡ false }
@@ -243,7 +253,7 @@ fn with_packing<'a>(alloc: Global, command: Command<'a>) -> Result<Command<'a>, 
         .arg(search_option(alloc))
 }
 
-/// The command with what is told of a run beside its report, and the settings.
+/// The command with what is told of a run beside its report, how it is told, and the settings.
 fn with_report<'a>(alloc: Global, command: Command<'a>) -> Result<Command<'a>, AllocError>
     ensures app { IfOk result (λ c. app_of c ≡ with_report (app_of command.entry)) }
     ensures local { IsLocal command.entry → IfOk result IsLocal }
@@ -251,6 +261,7 @@ fn with_report<'a>(alloc: Global, command: Command<'a>) -> Result<Command<'a>, A
     command
         .arg(profile_flag(alloc))?
         .arg(strict_flag(alloc))?
+        .arg(json_flag(alloc))?
         .arg(settings_words(alloc))
 }
 
@@ -303,7 +314,7 @@ fn with_forms<'a>(alloc: Global, command: Command<'a>) -> Result<Command<'a>, Al
     command.arg(listing_flag(alloc))?.arg(packets_flag(alloc))
 }
 
-/// The command with what is told of each block beside its picture, or that its head stands alone.
+/// The command with what is told of each block beside its picture, or that its head stands alone, and with how it is told.
 fn with_details<'a>(alloc: Global, command: Command<'a>) -> Result<Command<'a>, AllocError>
     ensures app { IfOk result (λ c. app_of c ≡ with_details (app_of command.entry)) }
     ensures local { IsLocal command.entry → IfOk result IsLocal }
@@ -311,7 +322,8 @@ fn with_details<'a>(alloc: Global, command: Command<'a>) -> Result<Command<'a>, 
     command
         .arg(why_flag(alloc))?
         .arg(registers_flag(alloc))?
-        .arg(summary_flag(alloc))
+        .arg(summary_flag(alloc))?
+        .arg(json_flag(alloc))
 }
 
 fn pack_command<'a>(alloc: Global) -> Result<Command<'a>, AllocError>
@@ -321,10 +333,10 @@ fn pack_command<'a>(alloc: Global) -> Result<Command<'a>, AllocError>
     let command = Command::new(alloc, "pack")
         .about("Reads serial text and writes its listing")
         .override_usage(
-            "c62 pack [--turns] [--eject <N>] [--shortest] [--search <N>] [-o <FILE>] [FILE]\n       c62 pack --pipeline [--trips <L=N>]... [--apart <REG,REG,..>] [--verbose] [-o <FILE>] [FILE]",
+            "c62 pack [--turns] [--eject <N>] [--shortest] [--search <N>] [--json] [-o <FILE>] [FILE]\n       c62 pack --pipeline [--trips <L=N>]... [--apart <REG,REG,..>] [--verbose] [--json] [-o <FILE>] [FILE]",
         )
         .after_help(ending!("c62 pack --pipeline --trips LOOP=8 kernel.s"));
-    with_told_pipeline(alloc, with_packing(alloc, command)?)
+    with_told_pipeline(alloc, with_packing(alloc, command)?)?.arg(json_flag(alloc))
 }
 
 fn show_command<'a>(alloc: Global) -> Result<Command<'a>, AllocError>
@@ -334,7 +346,7 @@ fn show_command<'a>(alloc: Global) -> Result<Command<'a>, AllocError>
     let command = Command::new(alloc, "show")
         .about("Packs serial text and shows each block's schedule, and how short one can be")
         .override_usage(
-            "c62 show [--why] [--registers] [--summary] [--turns] [--eject <N>] [--shortest] [--search <N>] [-o <FILE>] [FILE]\n       c62 show --pipeline [--trips <L=N>]... [--apart <REG,REG,..>] [-o <FILE>] [FILE]\n       c62 show --listing|--packets [--why] [--registers] [--summary] [-o <FILE>] [FILE]",
+            "c62 show [--why] [--registers] [--summary] [--turns] [--eject <N>] [--shortest] [--search <N>] [--json] [-o <FILE>] [FILE]\n       c62 show --pipeline [--trips <L=N>]... [--apart <REG,REG,..>] [--json] [-o <FILE>] [FILE]\n       c62 show --listing|--packets [--why] [--registers] [--summary] [--json] [-o <FILE>] [FILE]",
         )
         .after_help(ending!("c62 show --why kernel.s"));
     let command = with_pipeline(alloc, with_packing(alloc, command)?)?;
@@ -348,7 +360,7 @@ fn run_command<'a>(alloc: Global) -> Result<Command<'a>, AllocError>
     let command = Command::new(alloc, "run")
         .about("Packs serial text, runs the packets and reports the end")
         .override_usage(
-            "c62 run [--turns] [--eject <N>] [--shortest] [--search <N>] [--blocks <N>] [--profile] [--strict] [-o <FILE>] [FILE] [SETTING]...\n       c62 run --pipeline [--trips <L=N>]... [--apart <REG,REG,..>] [--verbose] [--cycles <N>] [--profile] [--strict] [-o <FILE>] [FILE] [SETTING]...",
+            "c62 run [--turns] [--eject <N>] [--shortest] [--search <N>] [--blocks <N>] [--profile] [--strict] [--json] [-o <FILE>] [FILE] [SETTING]...\n       c62 run --pipeline [--trips <L=N>]... [--apart <REG,REG,..>] [--verbose] [--cycles <N>] [--profile] [--strict] [--json] [-o <FILE>] [FILE] [SETTING]...",
         )
         .after_help(ending!("c62 run kernel.s A4=8 @8=99"));
     with_start(
@@ -364,7 +376,7 @@ fn serial_command<'a>(alloc: Global) -> Result<Command<'a>, AllocError>
     let command = Command::new(alloc, "serial")
         .about("Runs serial text, one instruction after the other, and reports the end")
         .override_usage(
-            "c62 serial [--apart <REG,REG,..>] [--blocks <N>] [--profile] [--strict] [-o <FILE>] [FILE] [SETTING]...",
+            "c62 serial [--apart <REG,REG,..>] [--blocks <N>] [--profile] [--strict] [--json] [-o <FILE>] [FILE] [SETTING]...",
         )
         .after_help(ending!("c62 serial kernel.s A4=8 @8=99"));
     with_start(alloc, command.arg(apart_option(alloc))?)
@@ -377,7 +389,7 @@ fn sim_command<'a>(alloc: Global) -> Result<Command<'a>, AllocError>
     let command = Command::new(alloc, "sim")
         .about("Reads a listing, runs its packets and reports the end")
         .override_usage(
-            "c62 sim [--packets] [--blocks <N>] [--profile] [--strict] [-o <FILE>] [FILE] [SETTING]...",
+            "c62 sim [--packets] [--blocks <N>] [--profile] [--strict] [--json] [-o <FILE>] [FILE] [SETTING]...",
         )
         .after_help(ending!("c62 sim kernel.lst A4=8 @8=99"));
     with_start(alloc, command.arg(written_flag(alloc))?)
@@ -392,7 +404,7 @@ fn exec_command<'a>(alloc: Global) -> Result<Command<'a>, AllocError>
             "Runs packets as they are written, with branches and loads in flight, and reports the end",
         )
         .override_usage(
-            "c62 exec [--cycles <N>] [--from <NAME> [--alone]] [--profile] [--strict] [-o <FILE>] [FILE] [SETTING]...",
+            "c62 exec [--cycles <N>] [--from <NAME> [--alone]] [--profile] [--strict] [--json] [-o <FILE>] [FILE] [SETTING]...",
         )
         .after_help(ending!("c62 exec hand.asm --from loop A4=8"));
     with_flight(alloc, command)
@@ -404,12 +416,13 @@ fn adopt_command<'a>(alloc: Global) -> Result<Command<'a>, AllocError>
 {
     Command::new(alloc, "adopt")
         .about("Reads packets as they are written for an assembler and writes their listing")
-        .override_usage("c62 adopt [--from <NAME>] [--drain] [-o <FILE>] [FILE]")
+        .override_usage("c62 adopt [--from <NAME>] [--drain] [--json] [-o <FILE>] [FILE]")
         .after_help(ending!(
             "c62 adopt hand.asm --drain  (4 cycles added; A5 was read below line 2 before it landed)"
         ))
         .arg(reach_option(alloc))?
-        .arg(drain_flag(alloc))
+        .arg(drain_flag(alloc))?
+        .arg(json_flag(alloc))
 }
 
 fn check_command<'a>(alloc: Global) -> Result<Command<'a>, AllocError>
@@ -419,11 +432,11 @@ fn check_command<'a>(alloc: Global) -> Result<Command<'a>, AllocError>
     let command = Command::new(alloc, "check")
         .about("Reads serial text, a line `---` and a listing, and compares their blocks")
         .override_usage(
-            "c62 check [--packets] [-o <FILE>] <TEXT> <LISTING>\n       c62 check [--packets] [-o <FILE>] [FILE]  (both in one, with a line `---` between them)\n       c62 check --loops [--trips <L=N>]... [--apart <REG,REG,..>] [-o <FILE>] <TEXT> <PACKETS>",
+            "c62 check [--packets] [--json] [-o <FILE>] <TEXT> <LISTING>\n       c62 check [--packets] [--json] [-o <FILE>] [FILE]  (both in one, with a line `---` between them)\n       c62 check --loops [--trips <L=N>]... [--apart <REG,REG,..>] [--json] [-o <FILE>] <TEXT> <PACKETS>",
         )
         .after_help(ending!("c62 check kernel.s hand.lst"))
         .arg(written_flag(alloc))?;
-    with_loops(alloc, command)
+    with_loops(alloc, command)?.arg(json_flag(alloc))
 }
 
 /// The program with no subcommand yet.

@@ -3,7 +3,7 @@
 ghost use Rattle.std.specs.Prelude.{◌≡◌, IfOk, IfErr, Some, false, map, [], codes, option_map};
 ghost use Rattle.std.specs.Str.{bytes_eq};
 ghost use Rattle.clap.specs.Words.{first_of, subcommand_of, subcommand_rows_of, fault_of};
-ghost use Rattle.c62_command.specs.CommandLine.{form_of, tool_app, is_set, blocks_of, cycles_of, budget_of, packing_of, showing_of, show_asked, found_rows, words_of, named_rows, ask_in, ask_of, pipelined_asked, plain_asked, asked, IsBadIn, IsBlame, IsRefusal, IsWordsError, IsSettingError, IsPromiseError, IsRefusalIn, course_of, choices_of, asks_shortest, flight_course_of, report_asked, SerialReport};
+ghost use Rattle.c62_command.specs.CommandLine.{form_of, tool_app, is_set, blocks_of, cycles_of, budget_of, packing_of, showing_of, show_asked, found_rows, words_of, named_rows, ask_in, ask_of, ask_told, what_in, rendering_of, plain_packing, Listing, pipelined_asked, plain_asked, asked, IsBadIn, IsBlame, IsRefusal, IsWordsError, IsSettingError, IsPromiseError, IsRefusalIn, course_of, choices_of, asks_shortest, flight_course_of, report_asked, SerialReport};
 ghost use Rattle.c62_command.specs.Promises.{IsPromiseErrorIn, all_trips, apart_of, trips_of, trips_words};
 ghost use Rattle.c62_command.specs.Settings.{AreSettings, IsBadAmong, settings_of};
 
@@ -133,6 +133,22 @@ pub enum Request {
     ShowLoops(Looping),
     /// The report of a run of such packets.
     RunLoops(Looping, Flight),
+}
+
+/// How what is asked for is told.
+#[derive(Clone, Copy, PartialEq, Eq, Debug)]
+pub enum Rendering {
+    /// As the text that the pages of the commands tell of.
+    Text,
+    /// As a JSON document.
+    Json,
+}
+
+/// What was asked for, and how it is to be told.
+#[derive(Debug, Drop)]
+pub struct Command {
+    pub request: Request,
+    pub rendering: Rendering,
 }
 
 /// Why words ask for nothing.
@@ -496,7 +512,7 @@ fn pipelined_named(
 
 /// What any subcommand asks for.
 fn request_of(alloc: Global, name: &str, found: &ArgMatches<'_>) -> Result<Request, CommandError>
-    ensures ok { IfOk result (λ request. ask_in (named_rows name.now found.now) ≡ Some (ask_of request)) }
+    ensures ok { IfOk result (λ request. what_in (named_rows name.now found.now) ≡ Some (ask_of request)) }
     ensures err { IfErr result (IsRefusalIn (named_rows name.now found.now)) }
 {
     if name == "check" {
@@ -515,14 +531,48 @@ fn request_of(alloc: Global, name: &str, found: &ArgMatches<'_>) -> Result<Reque
     request_named(alloc, name, found)
 }
 
+/// What no words ask for.
+fn plain_command() -> Command
+    ensures { ask_told result ≡ Listing plain_packing }
+{
+    Command {
+        request: Request::Pack(PLAIN),
+        rendering: Rendering::Text,
+    }
+}
+
+/// How it is told what a subcommand asks for, by its options.
+fn rendering_found(matches: &ArgMatches<'_>) -> Rendering
+    ensures { result ≡ rendering_of (found_rows matches.now) }
+{
+    if is_set(matches, "json") {
+        Rendering::Json
+    } else {
+        Rendering::Text
+    }
+}
+
+/// What any subcommand asks for, and how it is to be told.
+#[tactic(auto, using(crate::proofs::Asking::told_so))]
+fn command_named(alloc: Global, name: &str, found: &ArgMatches<'_>) -> Result<Command, CommandError>
+    ensures ok { IfOk result (λ command. ask_in (named_rows name.now found.now) ≡ Some (ask_told command)) }
+    ensures err { IfErr result (IsRefusalIn (named_rows name.now found.now)) }
+{
+    Ok(Command {
+        request: request_of(alloc, name, found)?,
+        rendering: rendering_found(found),
+    })
+}
+
 /// What the subcommand that was read asks for.
-fn request_in(alloc: Global, matches: &ArgMatches<'_>) -> Result<Request, CommandError>
-    ensures ok { IfOk result (λ request. ask_in (subcommand_rows_of matches.now) ≡ Some (ask_of request)) }
+#[tactic(auto, using(crate::proofs::Asking::none_told))]
+fn command_in(alloc: Global, matches: &ArgMatches<'_>) -> Result<Command, CommandError>
+    ensures ok { IfOk result (λ command. ask_in (subcommand_rows_of matches.now) ≡ Some (ask_told command)) }
     ensures err { IfErr result (IsRefusalIn (subcommand_rows_of matches.now)) }
 {
     match matches.subcommand() {
-        None => Ok(Request::Pack(PLAIN)),
-        Some((name, found)) => request_of(alloc, name, found),
+        None => Ok(plain_command()),
+        Some((name, found)) => command_named(alloc, name, found),
     }
 }
 
@@ -533,13 +583,13 @@ fn request_in(alloc: Global, matches: &ArgMatches<'_>) -> Result<Request, Comman
 /// `Words` only where clap doesn't take the words, `Setting` only where clap takes them and that setting is the first bad one,
 /// `Promise` only where clap takes them and that promise is the first bad one, and `Memory` where memory ran out, which may come
 /// whatever the words are.
-pub fn command_of<'a, S: AsStr>(alloc: Global, words: &'a [S]) -> Result<Request, CommandError>
-    ensures asked { IfOk result (λ request. asked (map S.text words.entry.now) ≡ Some (ask_of request)) }
+pub fn command_of<'a, S: AsStr>(alloc: Global, words: &'a [S]) -> Result<Command, CommandError>
+    ensures asked { IfOk result (λ command. asked (map S.text words.entry.now) ≡ Some (ask_told command)) }
     ensures refused { IfErr result (λ error. IsRefusal error (map S.text words.entry.now)) }
 {
     if words.is_empty() {
-        return Ok(Request::Pack(PLAIN));
+        return Ok(plain_command());
     }
     let matches = matches_of(alloc, words)?;
-    request_in(alloc, &matches)
+    command_in(alloc, &matches)
 }

@@ -1,2 +1,2 @@
 pub mod HintLemmas
-pub mod PictureLemmas
+pub mod PlacedLemmas

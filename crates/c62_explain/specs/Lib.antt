@@ -2,3 +2,4 @@ pub mod Sentence
 pub mod Near
 pub mod Picture
 pub mod Topic
+pub mod Placed

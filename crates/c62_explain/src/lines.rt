@@ -1,13 +1,14 @@
 //! What is answered of the faults of a text.
 
-ghost use Rattle.std.specs.Prelude.{◌≡◌, ◌≤◌, ◌<◌, ◌^◌, IfOk, OnOk};
-ghost use Rattle.c62_explain.specs.Picture.{Adds, Explains, IsPlaceIn, Lints, LintsOne, LintsText, line_at};
+ghost use Rattle.std.specs.Prelude.{◌≡◌, ◌≤◌, ◌<◌, ◌^◌, IfOk};
+ghost use Rattle.c62_explain.specs.Picture.{Explains, IsPlaceIn, LintsText, line_at};
+ghost use Rattle.c62_explain.specs.Placed.{LintsPlaced};
 
 use crate::help::{Faulty, help_of};
-use crate::picture::{push_lint_line, push_picture};
+use crate::picture::push_picture;
+use crate::placed::{placed_faults, push_all_placed};
 use crate::sentence::sentence;
 use c62_line::ReadFault;
-use c62_lint::faults_of;
 use c62_place::{Place, place_of};
 use c62_read::first_line;
 use std::alloc::{AllocError, Global};
@@ -32,45 +33,11 @@ pub fn line_at(text: &[u8], number: u32) -> &[u8]
 }
 
 /// Where a fault of this text is found in its line.
-fn place_in(alloc: Global, text: &[u8], fault: ReadFault) -> Result<Place, AllocError>
+pub(crate) fn place_in(alloc: Global, text: &[u8], fault: ReadFault) -> Result<Place, AllocError>
     ensures place { IfOk result (λ place. IsPlaceIn text.now fault place) }
     ensures bound { IfOk result (λ place. place.start < 2 ^ 63) }
 {
     place_of(alloc, fault.cause, line_at(text, fault.line))
-}
-
-/// A line for this fault.
-fn push_lint(
-    out: &mut Vec<u8>,
-    alloc: Global,
-    name: &[u8],
-    text: &[u8],
-    fault: ReadFault,
-) -> Result<(), AllocError>
-    ensures { OnOk result (Adds (LintsOne name.now text.now fault) out.old.items out.new.items) }
-{
-    let place = place_in(alloc, text, fault)?;
-    push_lint_line(out, name, fault, place)
-}
-
-/// A line for each of these faults.
-fn push_lints(
-    out: &mut Vec<u8>,
-    alloc: Global,
-    name: &[u8],
-    text: &[u8],
-    faults: &[ReadFault],
-) -> Result<(), AllocError>
-    ensures { OnOk result (Adds (Lints name.now text.now faults.now) out.old.items out.new.items) }
-{
-    match faults {
-        [] => Ok(()),
-        [fault, others @ ..] => {
-            push_lint(out, alloc, name, text, *fault)?;
-            push_lints(out, alloc, name, text, others)?;
-            Ok(())
-        }
-    }
 }
 
 /// A line `FILE:LINE:COLUMN: error: NAME: SENTENCE` for each faulty line of a serial text, at most so many, with the line's
@@ -80,13 +47,15 @@ fn push_lints(
 /// # Errors
 ///
 /// `AllocError` where memory ran out.
+#[tactic(auto, using(crate::proofs::PlacedLemmas::lints_text))]
 pub fn lint(alloc: Global, name: &[u8], text: &[u8], most: usize) -> Result<Vec<u8>, AllocError>
     requires { 1 ≤ most }
-    ensures { IfOk result (λ out. LintsText name.now text.now most out.items) }
+    ensures text { IfOk result (λ out. LintsText name.now text.now most out.items) }
+    ensures placed { IfOk result (λ out. LintsPlaced name.now text.now most out.items) }
 {
-    let faults = faults_of(alloc, text, most.min(MOST_FAULTS))?;
+    let all = placed_faults(alloc, text, most)?;
     let mut out = Vec::new(alloc);
-    push_lints(&mut out, alloc, name, text, &faults)?;
+    push_all_placed(&mut out, name, &all)?;
     Ok(out)
 }
 

@@ -2,10 +2,8 @@
 
 ghost use Rattle.std.specs.Prelude.{◌≡◌, ◌<◌, ◌++◌, ◌^◌, OnOk, decimal, map, replicate};
 ghost use Rattle.c62_token.specs.Token.{is_allowed};
-ghost use Rattle.c62_explain.specs.Picture.{blank_byte, carets, lead, lint_line, margin, marked, picture, position, quoted, shown, shown_byte};
+ghost use Rattle.c62_explain.specs.Picture.{blank_byte, carets, lead, margin, marked, picture, position, quoted, shown, shown_byte};
 
-use crate::sentence::sentence;
-use c62_line::ReadFault;
 use c62_place::Place;
 use itoa::Buffer;
 use std::alloc::AllocError;
@@ -120,24 +118,6 @@ pub fn push_position(
     push_number(out, u64::from(number))?;
     out.extend_from_slice(b":")?;
     push_number(out, place.start as u64 + 1)
-}
-
-/// The line of a fault as editors read it: `FILE:LINE:COLUMN: error: NAME: SENTENCE`.
-pub(crate) fn push_lint_line(
-    out: &mut Vec<u8>,
-    name: &[u8],
-    fault: ReadFault,
-    place: Place,
-) -> Result<(), AllocError>
-    requires { place.start < 2 ^ 63 }
-    ensures { OnOk result (out.new.items ≡ out.old.items ++ lint_line name.now fault place) }
-{
-    push_position(out, name, fault.line, place)?;
-    out.extend_from_slice(b": error: ")?;
-    out.extend_from_slice(fault.cause.name().as_bytes())?;
-    out.extend_from_slice(b": ")?;
-    out.extend_from_slice(sentence(fault.cause))?;
-    out.extend_from_slice(b"\n")
 }
 
 /// Where a fault is found, and the line.

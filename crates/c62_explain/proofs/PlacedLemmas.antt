@@ -1,0 +1,46 @@
+-- Faults with their columns, and the lines that tell them.
+use Rattle.std.proofs.Common.{arith, ◌≡◌, ℕ, suc, ◌+◌, List, [], ◌∷◌, ◌++◌, length, refl, sym, ap, ◌∙◌, append_assoc}
+use Rattle.std.specs.Prelude.{All, map, take, codes, decimal}
+use Rattle.std.specs.List.{flat_map}
+use Rattle.c62_line.specs.declared.fault.ReadFault.{ReadFault}
+use Rattle.c62_lint.specs.Faults.{faults_in, refusal_of}
+use Rattle.c62_explain.specs.declared.placed.PlacedFault.{PlacedFault}
+use Rattle.c62_explain.specs.Picture.{few, lint_line, Lints, LintsOne, LintsText}
+use Rattle.c62_explain.specs.Placed.{ArePlaced, IsPlaced, LintsPlaced, placed_line}
+
+tells_one : (name text : List ℕ) (placed : PlacedFault) → IsPlaced text placed
+    → LintsOne name text placed.fault (placed_line name placed)
+unfolding placed_line
+tells_one name text placed is = record { place = is.place; there = is.there; says = rw is.column refl }
+
+tells_all : (name text : List ℕ) (all : List PlacedFault) → All (IsPlaced text) all
+    → Lints name text (map (λ placed. placed.fault) all) (flat_map (placed_line name) all)
+tells_all name text [] there = refl
+tells_all name text (placed ∷ others) there = (
+  placed_line name placed,
+  flat_map (placed_line name) others,
+  refl,
+  tells_one name text placed (there 0 placed (omega arith)),
+  tells_all name text others (λ k d within. there (suc k) d (omega (arith, within))),
+)
+
+refusals_of : (all : List PlacedFault) → map refusal_of (map (λ placed. placed.fault) all)
+    ≡ map (λ placed. refusal_of placed.fault) all
+refusals_of [] = refl
+refusals_of (placed ∷ others) = ap (λ rest. refusal_of placed.fault ∷ rest) (refusals_of others)
+
+pub are_placed : (text : List ℕ) (most : ℕ) (faults : List ReadFault) (all : List PlacedFault)
+    → map refusal_of faults ≡ take (few most) (faults_in text)
+    → map (λ placed. placed.fault) all ≡ faults → All (IsPlaced text) all → ArePlaced text most all
+are_placed text most faults all is same there = record {
+  faults = sym (refusals_of all) ∙ (ap (map refusal_of) same ∙ is);
+  there = there;
+}
+
+pub lints_text : (name text : List ℕ) (most : ℕ) (out : List ℕ) → LintsPlaced name text most out
+    → LintsText name text most out
+lints_text name text most out lints = record {
+  faults = map (λ placed. placed.fault) lints.placed;
+  all = refusals_of lints.placed ∙ lints.are.faults;
+  says = rw lints.says (tells_all name text lints.placed lints.are.there);
+}

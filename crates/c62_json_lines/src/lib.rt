@@ -1,0 +1,6 @@
+//! The document of a text: its lines (docs/JSON.md, "Lines").
+#![tactic(auto)]
+
+mod lines;
+
+pub use lines::lines_document;
