@@ -110,7 +110,8 @@ uncoded_flight course from settings text fault f (inr known) lacks =
     rw (known.1) (inl (record { fault = fault; known = known.0; lacks = lacks; told = refl }))
 
 -- where it does, this is
-pub flight_text : (course : FlightCourse) (named from : Option Text) (settings : List Setting) (outcome : Outcome)
+unfoldable pub flight_text : (course : FlightCourse) (named from : Option Text) (settings : List Setting)
+    (outcome : Outcome)
     (text code answer : List ℕ) (begun : Begun) → named ≡ from
     → code_read text ≡ Ok code → BeginsAs code named begun
     → IsFlown (text_of begun.rows) begun.labels.entries begun.first settings course outcome answer

@@ -1,5 +1,5 @@
 -- What a picture says of shorter schedules holds of its blocks.
-use Rattle.std.proofs.Common.{arith, ◌≡◌, Bool, true, false, List, [], ◌∷◌, length, subst, Option, Some, None}
+use Rattle.std.proofs.Common.{arith, Bool, true, false, List, [], ◌∷◌, subst, Option, Some, None}
 use Rattle.std.specs.Prelude.{IsTrue, IfSome}
 use Rattle.std.specs.Option.{IsSomeAnd}
 use Rattle.std.proofs.lemmas.Bool.Decides.{nat_tests}

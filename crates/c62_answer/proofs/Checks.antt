@@ -165,7 +165,7 @@ module _ (all : List ℕ) (n : ℕ) (enough : most_parted + 1 ≤ n) where
             ∙ code_read-take (listing ++ drop n all)
       ]
 
-  says_all : (form : Form) (text listing : List ℕ) (packets : List Packed) → IsCut (take n all) text listing
+  pub says_all : (form : Form) (text listing : List ℕ) (packets : List Packed) → IsCut (take n all) text listing
       → length text ≤ most_bytes
       → SaysPackets form listing packets → SaysPackets form (listing ++ drop n all) packets
   says_all Listed text listing packets cut short is = read_same listing (listing ++ drop n all) packets
@@ -191,7 +191,7 @@ module _ (all : List ℕ) (n : ℕ) (enough : most_parted + 1 ≤ n) where
 
   -- ---- checks
 
-  pub check_all : (form : Form) (same : Bool) (answer : List ℕ) → IsCheck form (take n all) same answer
+  unfoldable pub check_all : (form : Form) (same : Bool) (answer : List ℕ) → IsCheck form (take n all) same answer
       → IsCheck form all same answer
   check_all form same answer is =
       let short = short_said is.text is.program is.says in

@@ -14,10 +14,10 @@ use Rattle.c62_answer.specs.Run.{IsFlightReport}
 use Rattle.c62_answer.specs.Texts.{IsNoFlight}
 use Rattle.c62_adopt_cut.specs.Text.{most_bytes as most_packets_bytes}
 
-code_all : (all text : List ℕ) → text ≡ take (most_packets_bytes + 1) all → code_read text ≡ code_read all
+pub code_all : (all text : List ℕ) → text ≡ take (most_packets_bytes + 1) all → code_read text ≡ code_read all
 code_all all text read = ap code_read read ∙ code_read-take all
 
-pub flight_all : (course : FlightCourse) (from : Option Text) (settings : List Given) (outcome : Outcome)
+unfoldable pub flight_all : (course : FlightCourse) (from : Option Text) (settings : List Given) (outcome : Outcome)
     (all text answer : List ℕ) → text ≡ take (most_packets_bytes + 1) all
     → IsFlightReport course from settings outcome text answer → IsFlightReport course from settings outcome all answer
 flight_all course from settings outcome all text answer read is =

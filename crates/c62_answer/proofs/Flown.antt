@@ -1,5 +1,5 @@
 -- The table of a run with everything in flight.
-use Rattle.std.proofs.Common.{◌≡◌, ◌+◌, ◌^◌, ◌≤◌, ℕ, List, [], ◌++◌, arith}
+use Rattle.std.proofs.Common.{◌≡◌, ◌^◌, ◌≤◌, ℕ, List, [], ◌++◌, arith}
 use Rattle.std.specs.Prelude.{true}
 use Rattle.c62_read.specs.Program.{Name}
 use Rattle.c62_serial.specs.State.{Machine}

@@ -13,12 +13,13 @@ use Rattle.c62_adopt_late.specs.Late.{first_late}
 use Rattle.c62_answer.specs.declared.outcome.Added.{Added}
 use Rattle.c62_adopt.proofs.CodeLemmas.{adopted_same, code_read-take, refuses_same as packets_refused}
 use Rattle.c62_answer.specs.Message.{fault_message}
-use Rattle.c62_answer.specs.Run.{IsAdoptedText, IsDrainedText, IsAnswer, IsRefused, IsRefusedText, limit_of}
+use Rattle.c62_answer.specs.Run.{IsAdoptedText, IsDrainedText, IsRefused, IsRefusedText}
+use Rattle.c62_answer.specs.Run.{limit_of}
 use Rattle.c62_reach.proofs.Front.{lacks_all, taken_all}
-use Rattle.c62_answer.proofs.Flights.{flight_all, no_flight_all}
+use Rattle.c62_answer.proofs.Flights.{no_flight_all}
 use Rattle.c62_command.specs.CommandLine.{Adoption, Ask, FlightReport, Listing, ListingPicture, PacketReport}
 use Rattle.c62_command.specs.CommandLine.{PacketsPicture, Picture, Reaching, SerialReport, StandingReport, Verdicts}
-use Rattle.c62_command.specs.CommandLine.{LoopListing, LoopPicture, LoopReport, LoopVerdicts}
+use Rattle.c62_command.specs.CommandLine.{Document, LoopListing, LoopPicture, LoopReport, LoopVerdicts}
 use Rattle.c62_command.specs.declared.command.Packing.{Packing}
 use Rattle.c62_pipeline.specs.declared.written.Pipelining.{Pipelining}
 use Rattle.c62_read.specs.Block.{Serial}
@@ -26,16 +27,14 @@ use Rattle.c62_answer.specs.Looped.{IsLooped, IsUnlooped}
 use Rattle.c62_command.specs.declared.command.Form.{Form}
 use Rattle.c62_command.specs.declared.command.Form.TheVariants.{Listed, Written}
 use Rattle.clap.specs.Words.{Text}
-use Rattle.c62_answer.specs.declared.outcome.Outcome.{Outcome}
-use Rattle.c62_answer.specs.declared.outcome.Outcome.TheVariants.{Done, Drained, NotSame, Breached, Looped}
 use Rattle.c62_answer.specs.Texts.{IsNoListing, IsNoPackets, IsNoProgram}
 use Rattle.c62_op.specs.declared.register.Reg.{Reg}
-use Rattle.c62_answer.specs.Check.{IsCheck, IsNoCheck}
+use Rattle.c62_answer.specs.Check.{IsNoCheck}
 use Rattle.c62_answer.specs.LoopCheck.{IsLoopCheck, IsNoLoopCheck}
 use Rattle.c62_answer.proofs.LoopChecks.{loop_check_all, no_loop_check_all}
 use Rattle.c62_answer.proofs.Checks.{most_parted}
-use Rattle.c62_answer.proofs.Checks.{check_all, no_check_all}
-use Rattle.c62_answer.proofs.TooLong.{read_same, refuses_same, too_long, too_long_listing}
+use Rattle.c62_answer.proofs.Checks.{no_check_all}
+use Rattle.c62_answer.proofs.TooLong.{refuses_same, too_long, too_long_listing}
 use Rattle.c62_read.specs.Program.{most_bytes}
 use Rattle.c62_listing_reader.specs.Faults.{most_bytes as most_listing_bytes}
 use Rattle.c62_adopt_cut.specs.Text.{most_bytes as most_packets_bytes}
@@ -58,16 +57,17 @@ listed_in-take all =
     ]
 
 -- what a part that tells enough says is what all says
-program_all : (all text : List ℕ) → text ≡ take (most_bytes + 1) all → program_in text ≡ program_in all
+pub program_all : (all text : List ℕ) → text ≡ take (most_bytes + 1) all → program_in text ≡ program_in all
 program_all all text read = ap program_in read ∙ program_in-take all
 
-listed_all : (all text : List ℕ) → text ≡ take (most_listing_bytes + 1) all → listed_in text ≡ listed_in all
+pub listed_all : (all text : List ℕ) → text ≡ take (most_listing_bytes + 1) all → listed_in text ≡ listed_in all
 listed_all all text read = ap listed_in read ∙ listed_in-take all
 
-code_all : (all text : List ℕ) → text ≡ take (most_packets_bytes + 1) all → code_read text ≡ code_read all
+pub code_all : (all text : List ℕ) → text ≡ take (most_packets_bytes + 1) all → code_read text ≡ code_read all
 code_all all text read = ap code_read read ∙ code_read-take all
 
-adopted_all : (drain : Bool) (added : ℕ) (all text answer : List ℕ) → text ≡ take (most_packets_bytes + 1) all
+unfoldable pub adopted_all : (drain : Bool) (added : ℕ) (all text answer : List ℕ)
+    → text ≡ take (most_packets_bytes + 1) all
     → IsAdoptedText drain added text answer → IsAdoptedText drain added all answer
 adopted_all drain added all text answer read is = record {
   packets = is.packets;
@@ -75,7 +75,7 @@ adopted_all drain added all text answer read is = record {
   listed = is.listed;
 }
 
-drained_all : (added : Added) (all text answer : List ℕ) → text ≡ take (most_packets_bytes + 1) all
+unfoldable pub drained_all : (added : Added) (all text answer : List ℕ) → text ≡ take (most_packets_bytes + 1) all
     → IsDrainedText added text answer
     → IsDrainedText added all answer
 drained_all added all text answer read is = record {
@@ -95,13 +95,6 @@ no_packets_all drain all text message read is = record {
 }
 
 -- a listing and packets as they are written may be as long
-checked_all : (form : Form) (same : Bool) (all text answer : List ℕ) → text ≡ take (limit_of (Verdicts form) + 1) all
-    → IsCheck form text same answer → IsCheck form all same answer
-checked_all Listed same all text answer read is = check_all all (most_parted + 1) (omega arith) Listed same answer
-    (subst (λ (xs : List ℕ). IsCheck Listed xs same answer) read is)
-checked_all Written same all text answer read is = check_all all (most_parted + 1) (omega arith) Written same answer
-    (subst (λ (xs : List ℕ). IsCheck Written xs same answer) read is)
-
 unchecked_all : (form : Form) (all text message : List ℕ) → text ≡ take (limit_of (Verdicts form) + 1) all
     → IsNoCheck form text message → IsNoCheck form all message
 unchecked_all Listed all text message read is = no_check_all all (most_parted + 1) (omega arith) Listed message
@@ -109,7 +102,7 @@ unchecked_all Listed all text message read is = no_check_all all (most_parted + 
 unchecked_all Written all text message read is = no_check_all all (most_parted + 1) (omega arith) Written message
     (subst (λ (xs : List ℕ). IsNoCheck Written xs message) read is)
 
-loops_checked_all : (trips : List (Text × ℕ)) (apart : List Reg) (same : Bool) (all text answer : List ℕ)
+pub loops_checked_all : (trips : List (Text × ℕ)) (apart : List Reg) (same : Bool) (all text answer : List ℕ)
     → text ≡ take (most_parted + 1) all
     → IsLoopCheck trips apart text same answer → IsLoopCheck trips apart all same answer
 loops_checked_all trips apart same all text answer read is =
@@ -122,7 +115,7 @@ loops_unchecked_all trips all text message read is =
     no_loop_check_all all (most_parted + 1) (omega arith) trips message
     (subst (λ (xs : List ℕ). IsNoLoopCheck trips xs message) read is)
 
-looped_all : (packing : Packing) (trips : List (Text × ℕ)) (apart : List Reg) (all text : List ℕ)
+pub looped_all : (packing : Packing) (trips : List (Text × ℕ)) (apart : List Reg) (all text : List ℕ)
     (program : List Serial) (written : Pipelining)
     → text ≡ take (most_bytes + 1) all → IsLooped packing trips apart text program written
     → IsLooped packing trips apart all program written
@@ -133,94 +126,6 @@ looped_all packing trips apart all text program written read is = record {
   packed = is.packed;
   is = is.is;
 }
-
--- the answer to what was read is the answer to all
-pub answered : (ask : Ask) (outcome : Outcome) (all text answer : List ℕ) → text ≡ take (limit_of ask + 1) all
-    → IsAnswer ask outcome text answer → IsAnswer ask outcome all answer
-answered (Listing packing) Done all text answer read is = record {
-  program = is.program;
-  says = sym (program_all all text read) ∙ is.says;
-  packets = is.packets;
-  packed = is.packed;
-  listed = is.listed;
-}
-answered (Picture showing) Done all text answer read is = record {
-  program = is.program;
-  says = sym (program_all all text read) ∙ is.says;
-  shown = is.shown;
-  packed = is.packed;
-  bounded = is.bounded;
-  drawn = is.drawn;
-}
-answered (ListingPicture showing) Done all text answer read is = record {
-  packets = is.packets;
-  read = read_same text all is.packets (listed_all all text read) is.read;
-  drawn = is.drawn;
-}
-answered (PacketsPicture showing) Done all text answer read is = record {
-  packets = is.packets;
-  adopted = adopted_same false text all is.packets 0 (code_all all text read) is.adopted;
-  drawn = is.drawn;
-}
-answered (SerialReport course settings apart) outcome all text answer read is = record {
-  program = is.program;
-  says = sym (program_all all text read) ∙ is.says;
-  reported = is.reported;
-}
-answered (PacketReport packing course settings) outcome all text answer read is = record {
-  program = is.program;
-  says = sym (program_all all text read) ∙ is.says;
-  packets = is.packets;
-  packed = is.packed;
-  reported = is.reported;
-}
-answered (StandingReport Listed course settings) outcome all text answer read is = record {
-  packets = is.packets;
-  read = read_same text all is.packets (listed_all all text read) is.read;
-  reported = is.reported;
-}
-answered (StandingReport Written course settings) outcome all text answer read is = record {
-  packets = is.packets;
-  read = adopted_same false text all is.packets 0 (code_all all text read) is.read;
-  reported = is.reported;
-}
-answered (FlightReport course from settings) outcome all text answer read is = flight_all course from settings outcome
-    all text answer read is
-answered (Adoption false) Done all text answer read is = adopted_all false 0 all text answer read is
-answered (Adoption true) (Drained added) all text answer read is = drained_all added all text answer read is
-answered (Reaching name ask) outcome all text answer read is = (is.0, taken_all name all text is.0 read is.1, is.2)
-answered (Verdicts form) Done all text answer read is = checked_all form true all text answer read is
-answered (Verdicts form) NotSame all text answer read is = checked_all form false all text answer read is
-answered (LoopVerdicts trips apart) Done all text answer read is = loops_checked_all trips apart true all text answer
-    read is
-answered (LoopVerdicts trips apart) NotSame all text answer read is = loops_checked_all trips apart false all text
-    answer read is
-answered (LoopListing verbose packing trips apart) (Looped told None) all text answer read is = record {
-  program = is.program;
-  written = is.written;
-  looped = looped_all packing trips apart all text is.program is.written read is.looped;
-  lines = is.lines;
-  listed = is.listed;
-}
-answered (LoopPicture packing trips apart) Done all text answer read is = record {
-  program = is.program;
-  written = is.written;
-  looped = looped_all packing trips apart all text is.program is.written read is.looped;
-  drawn = is.drawn;
-}
-answered (LoopReport verbose packing trips apart course settings) (Looped told has) all text answer read is = record {
-  program = is.program;
-  written = is.written;
-  looped = looped_all packing trips apart all text is.program is.written read is.looped;
-  lines = is.lines;
-  flying = is.flying;
-  first = is.first;
-  begins = is.begins;
-  outcome = is.outcome;
-  flown = is.flown;
-  ends = is.ends;
-}
-answered _ _ all text answer read is = absurd is
 
 no_program_all : (all text message : List ℕ) → text ≡ take (most_bytes + 1) all → IsNoProgram text message
     → IsNoProgram all message
@@ -261,6 +166,7 @@ refused_all (ListingPicture showing) all text message read is = no_listing_all a
 refused_all (PacketsPicture showing) all text message read is = no_packets_all false all text message read is
 refused_all (FlightReport course from settings) all text message read is = no_flight_all from all text message read is
 refused_all (Adoption drain) all text message read is = no_packets_all drain all text message read is
+refused_all (Document ask) all text message read is = refused_all ask all text message read is
 refused_all (Reaching name ask) all text message read (inl none) = inl
     (record { lacks = lacks_all name all text read none.lacks; told = none.told })
 refused_all (Reaching name ask) all text message read (inr is) = inr

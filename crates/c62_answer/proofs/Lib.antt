@@ -14,6 +14,7 @@ pub mod FlyingPart
 pub mod Flights
 pub mod Reached
 pub mod Fronts
+pub mod FrontAnswers
 mod Statuses
 mod Looping
 pub mod Runs
@@ -29,3 +30,6 @@ mod AdoptedRun
 pub mod Bounds
 mod WithMemory
 mod Flown
+pub mod Documented
+pub mod RunsTold
+pub mod RunsDocumented

@@ -1,7 +1,7 @@
 -- What a run did, from what each of its steps did.
 use Rattle.std.proofs.Common.{◌≡◌, ℕ, ◌+◌, List, take, Option, Some, None, Ok, Err, refl, sym, subst, arith, rules, inl}
 use Rattle.std.proofs.Common.{inr}
-use Rattle.std.specs.Prelude.{◌⊎◌, ◌<◌, ◌≤◌, IfSome, codes}
+use Rattle.std.specs.Prelude.{◌⊎◌, IfSome, codes}
 use Rattle.std.specs.Option.{IsSomeAnd}
 use Rattle.std.specs.Io.KnownBytes.{Appends, Keeps}
 use Rattle.c62_answer.specs.Message.{Telling, Tells, TellsOf, TellsOutcome, adopt_message, fault_message, list_message}
@@ -18,7 +18,8 @@ use Rattle.c62_answer.specs.declared.failure.Failure.{Failure}
 use Rattle.c62_answer.specs.declared.failure.Failure.TheVariants as failures
 use Rattle.c62_answer.specs.declared.outcome.Outcome.{Outcome}
 use Rattle.c62_answer.specs.declared.outcome.Reply.{Reply}
-use Rattle.c62_answer.proofs.Fronts.{answered, refused}
+use Rattle.c62_answer.proofs.FrontAnswers.{answered}
+use Rattle.c62_answer.proofs.Fronts.{refused}
 use Rattle.c62_answer.proofs.Statuses.{neither, most_status, ends_otherwise}
 
 -- the answer to what was read, written

@@ -1,5 +1,5 @@
 -- Texts that are too long, and texts of which the same is told.
-use Rattle.std.proofs.Common.{◌≡◌, ◌∙◌, ℕ, ◌-◌, ◌<◌, ◌≤◌, List, length, map, Result, Ok, Err, refl, sym, inl, inr}
+use Rattle.std.proofs.Common.{◌≡◌, ◌∙◌, ℕ, ◌<◌, ◌≤◌, List, length, map, Result, Ok, Err, refl, sym, inl, inr}
 use Rattle.std.proofs.lemmas.Bool.{cases_lt, lt-ltb}
 use Rattle.c62_line.specs.declared.fault.Cause.TheVariants.{TextTooLong}
 use Rattle.c62_read.specs.Block.{Serial}

@@ -1,6 +1,6 @@
 -- What is told where packets in flight are held against the loops of a serial text that stands before them (docs/CHECK.md, "The
 -- command").
-use Rattle.std.specs.Prelude.{◌≡◌, ℕ, Bool, true, List, Option, Some, None}
+use Rattle.std.specs.Prelude.{◌≡◌, ℕ, Bool, true, List, Some, None}
 use Rattle.clap.specs.Words.{Text as Name}
 use Rattle.c62_op.specs.declared.register.Reg.{Reg}
 use Rattle.c62_line.specs.declared.fault.Cause.TheVariants.{TextTooLong}

@@ -1,7 +1,7 @@
 -- Answers end with the bytes of memory that go to files (docs/COMMANDS.md, "Files").
 use Rattle.std.specs.Prelude.{◌≡◌, ℕ, List, ◌++◌}
 use Rattle.c62_command.specs.declared.setting.Setting.{Setting as Given}
-use Rattle.c62_command.specs.CommandLine.{Ask, SerialReport, PacketReport, StandingReport, FlightReport, LoopReport, Reaching}
+use Rattle.c62_command.specs.CommandLine.{Ask, SerialReport, PacketReport, StandingReport, FlightReport, LoopReport, Reaching, Document}
 use Rattle.c62_printing.specs.Dumping.{dumps}
 use Rattle.c62_serial.specs.State.{Machine}
 use Rattle.c62_answer.specs.declared.outcome.Outcome.{Outcome}
@@ -19,6 +19,7 @@ HasItsMemory (StandingReport form course settings) answer = EndsWithMemory setti
 HasItsMemory (FlightReport course from settings) answer = EndsWithMemory settings answer
 HasItsMemory (LoopReport verbose packing trips apart course settings) answer = EndsWithMemory settings answer
 HasItsMemory (Reaching name ask) answer = HasItsMemory ask answer
+HasItsMemory (Document ask) answer = HasItsMemory ask answer
 HasItsMemory _ answer = Unit {0}
 
 abbrev pub AnswersEndWithMemory : Type 0

@@ -67,7 +67,15 @@ use Rattle.c62_profile.specs.declared.tally.Tally.{Tally}
 use Rattle.c62_profile.specs.Visits.{CountsPackets, CountsProgram}
 use Rattle.c62_profile.specs.Table.{packet_table, serial_table}
 use Rattle.c62_profile.specs.Flights.{flight_table}
-use Rattle.c62_command.specs.CommandLine.{Ask, Listing, Picture, ListingPicture, PacketsPicture, SerialReport, PacketReport, StandingReport, FlightReport, Adoption, Reaching, Verdicts, LoopVerdicts, LoopListing, LoopPicture, LoopReport, IsRefusal, IsUnknown, HasBadSetting, HasBadPromise, asked}
+use Rattle.c62_json_lines.specs.Lines.{lines_document}
+use Rattle.c62_json_report.specs.Runs.{serial_members, packet_members, flight_members}
+use Rattle.c62_json.specs.Document.{document}
+use Rattle.c62_json_packets.specs.Packets.{blocks_member}
+use Rattle.c62_json_check.specs.Checked.{IsCheckDocument}
+use Rattle.c62_json_show.specs.Shown.{blocks_member as shown_members}
+use Rattle.c62_json_adopt.specs.declared.adopted.Drained.{Drained as DrainedTold}
+use Rattle.c62_json_adopt.specs.Adopted.{adopted_members}
+use Rattle.c62_command.specs.CommandLine.{Ask, Listing, Picture, ListingPicture, PacketsPicture, SerialReport, PacketReport, StandingReport, FlightReport, Adoption, Reaching, Document, Verdicts, LoopVerdicts, LoopListing, LoopPicture, LoopReport, IsRefusal, IsUnknown, HasBadSetting, HasBadPromise, asked}
 use Rattle.c62_answer.specs.Message.{adopt_message, fault_message, list_message, rows_message, no_listing, no_loop, of_listing, of_text, promise_message, setting_message, IsFront, IsToldOf, Telling, Tells, TellsOf, TellsOutcome}
 use Rattle.c62_answer.specs.Texts.{SaysProgram, SaysPackets, SaysNoPackets, IsNoProgram, IsNoListing, IsNoPackets, IsNoFlight, IsUnreached}
 use Rattle.c62_answer.specs.Check.{IsCheck, IsNoCheck}
@@ -192,6 +200,7 @@ limit_of (StandingReport form course settings) = most_of form
 limit_of (FlightReport course from settings) = most_packets_bytes
 limit_of (Adoption drain) = most_packets_bytes
 limit_of (Reaching name ask) = most_packets_bytes
+limit_of (Document ask) = limit_of ask
 limit_of (Verdicts form) = most_bytes + 5 + most_of form
 limit_of (LoopVerdicts trips apart) = most_bytes + 5 + most_packets_bytes
 limit_of _ = most_bytes
@@ -371,29 +380,135 @@ abbrev pub outcome_of : Bool → Outcome
 outcome_of true = Done
 outcome_of false = NotSame
 
--- What answers a text: its listing or its picture, the report of a run, or what a check tells, or such an answer to what is taken of it. A
+-- What answers a text as text: its listing or its picture, the report of a run, or what a check tells, or such an answer to what is taken of it. A
 -- text is drained only where that is asked for, only of a check not all may be the same, and only a strict run may end otherwise than done.
-abbrev pub IsAnswer : Ask → Outcome → List ℕ → List ℕ → Type 0
-IsAnswer (Listing packing) Done text answer = IsPackedText packing text answer
-IsAnswer (Picture showing) Done text answer = IsShownText showing text answer
-IsAnswer (ListingPicture showing) Done text answer = IsShownListing showing text answer
-IsAnswer (PacketsPicture showing) Done text answer = IsShownPackets showing text answer
-IsAnswer (SerialReport course settings apart) outcome text answer = IsSerialReport settings course outcome text answer
-IsAnswer (PacketReport packing course settings) outcome text answer = IsRunReport packing settings course outcome text answer
-IsAnswer (StandingReport form course settings) outcome text answer = IsStandingReport form settings course outcome text answer
-IsAnswer (FlightReport course from settings) outcome text answer = IsFlightReport course from settings outcome text answer
-IsAnswer (Adoption false) Done text answer = IsAdoptedText false 0 text answer
-IsAnswer (Adoption true) (Drained added) text answer = IsDrainedText added text answer
-IsAnswer (Reaching name ask) outcome text answer = (taken : List ℕ) × IsTaken name text taken × IsAnswer ask outcome taken answer
-IsAnswer (Verdicts form) Done text answer = IsCheck form text true answer
-IsAnswer (Verdicts form) NotSame text answer = IsCheck form text false answer
-IsAnswer (LoopVerdicts trips apart) Done text answer = IsLoopCheck trips apart text true answer
-IsAnswer (LoopVerdicts trips apart) NotSame text answer = IsLoopCheck trips apart text false answer
-IsAnswer (LoopListing verbose packing trips apart) (Looped told None) text answer = IsLoopListing verbose packing trips apart told.items text answer
-IsAnswer (LoopPicture packing trips apart) Done text answer = IsLoopPicture packing trips apart text answer
-IsAnswer (LoopReport verbose packing trips apart course settings) (Looped told has) text answer =
+abbrev pub IsTextAnswer : Ask → Outcome → List ℕ → List ℕ → Type 0
+IsTextAnswer (Listing packing) Done text answer = IsPackedText packing text answer
+IsTextAnswer (Picture showing) Done text answer = IsShownText showing text answer
+IsTextAnswer (ListingPicture showing) Done text answer = IsShownListing showing text answer
+IsTextAnswer (PacketsPicture showing) Done text answer = IsShownPackets showing text answer
+IsTextAnswer (SerialReport course settings apart) outcome text answer = IsSerialReport settings course outcome text answer
+IsTextAnswer (PacketReport packing course settings) outcome text answer = IsRunReport packing settings course outcome text answer
+IsTextAnswer (StandingReport form course settings) outcome text answer = IsStandingReport form settings course outcome text answer
+IsTextAnswer (FlightReport course from settings) outcome text answer = IsFlightReport course from settings outcome text answer
+IsTextAnswer (Adoption false) Done text answer = IsAdoptedText false 0 text answer
+IsTextAnswer (Adoption true) (Drained added) text answer = IsDrainedText added text answer
+IsTextAnswer (Reaching name ask) outcome text answer = (taken : List ℕ) × IsTaken name text taken × IsTextAnswer ask outcome taken answer
+IsTextAnswer (Verdicts form) Done text answer = IsCheck form text true answer
+IsTextAnswer (Verdicts form) NotSame text answer = IsCheck form text false answer
+IsTextAnswer (LoopVerdicts trips apart) Done text answer = IsLoopCheck trips apart text true answer
+IsTextAnswer (LoopVerdicts trips apart) NotSame text answer = IsLoopCheck trips apart text false answer
+IsTextAnswer (LoopListing verbose packing trips apart) (Looped told None) text answer = IsLoopListing verbose packing trips apart told.items text answer
+IsTextAnswer (LoopPicture packing trips apart) Done text answer = IsLoopPicture packing trips apart text answer
+IsTextAnswer (LoopReport verbose packing trips apart course settings) (Looped told has) text answer =
     IsLoopReport verbose packing trips apart course settings told.items has text answer
-IsAnswer _ _ text answer = ⊥
+IsTextAnswer _ _ text answer = ⊥
+
+-- ---- documents
+
+abbrev pub serial_document : List Serial → Chain → Machine → List Given → Option Tally → List ℕ
+serial_document program chain final settings counted = document (codes "serial") (serial_members program chain final settings counted)
+
+abbrev pub packet_document : (command : List ℕ) → List Packed → Chain → ℕ → Machine → List Given → Option Tally → List ℕ
+packet_document command packets chain cycles final settings counted =
+    document command (packet_members packets chain cycles final settings counted)
+
+abbrev pub flight_document : (command : List ℕ) → List (Name × ℕ) → Stop → ℕ → Machine → List Given → Option (List Count) → List ℕ
+flight_document command labels stop cycles final settings counted =
+    document command (flight_members labels stop cycles final settings counted)
+
+-- what was counted of a run, where that is asked for
+abbrev pub IsCounted : {T : Type 0} → (profile : Bool) → (Counts : T → Type 0) → Option T → Type 0
+IsCounted false Counts counted = counted ≡ None
+IsCounted true Counts counted = IsSomeAnd counted Counts
+
+-- The document of a run, with what was counted of it where that is asked for, and behind it the bytes that go to files.
+pub record IsRunDocument {T : Type 0} (profile : Bool) (Counts : T → Type 0) (told : Option T → List ℕ) (files answer : List ℕ) : Type 0 where
+  pub counted : Option T
+  pub is : IsCounted profile Counts counted
+  pub document : answer ≡ told counted ++ files
+
+-- what a report tells of a serial run
+abbrev pub IsSerialDocument : (program : List Serial) (settings : List Given) (course : Course) (outcome : Outcome) (report : List ℕ)
+    → IsReport program settings course outcome report → (answer : List ℕ) → Type 0
+IsSerialDocument program settings course outcome report is answer =
+    IsRunDocument course.profile (CountsProgram program is.opening course.blocks is.chain is.final)
+    (serial_document program is.chain is.final settings) (dumps is.final settings) answer
+
+-- of a run of packets, by a command
+abbrev pub IsPacketDocument : (command : List ℕ) (packets : List Packed) (settings : List Given) (course : Course) (outcome : Outcome) (report : List ℕ)
+    → IsPacketReport packets settings course outcome report → (answer : List ℕ) → Type 0
+IsPacketDocument command packets settings course outcome report is answer =
+    IsRunDocument course.profile (CountsPackets packets is.opening course.blocks is.chain is.final)
+    (packet_document command packets is.chain is.cycles is.final settings) (dumps is.final settings) answer
+
+-- and of a run with everything in flight, of a text with these labels
+abbrev pub IsFlightDocument : (command : List ℕ) (flying : FlightText) (labels : List (Name × ℕ)) (first : ℕ) (settings : List Given)
+    (course : FlightCourse) (outcome : Outcome) (report : List ℕ)
+    → IsFlown flying labels first settings course outcome report → (answer : List ℕ) → Type 0
+IsFlightDocument command flying labels first settings course outcome report is answer =
+    IsRunDocument course.profile (CountsFlight flying first course.cycles is.opening is.stop is.cycles is.final)
+    (flight_document command labels is.stop is.cycles is.final settings) (dumps is.final settings) answer
+
+-- This is the document of a report of a serial run.
+abbrev pub TellsOfRun : List Serial → List Given → Course → Outcome → (answer : List ℕ) → Type 0
+TellsOfRun program settings course outcome answer =
+    (report : List ℕ) × (is : IsReport program settings course outcome report) × IsSerialDocument program settings course outcome report is answer
+
+-- of one of a run of packets
+abbrev pub TellsOfPackets : (command : List ℕ) → List Packed → List Given → Course → Outcome → (answer : List ℕ) → Type 0
+TellsOfPackets command packets settings course outcome answer =
+    (report : List ℕ) × (is : IsPacketReport packets settings course outcome report)
+    × IsPacketDocument command packets settings course outcome report is answer
+
+-- and of one of a run with everything in flight
+abbrev pub TellsOfFlight : (command : List ℕ) → FlightText → List (Name × ℕ) → (first : ℕ) → List Given → FlightCourse → Outcome → (answer : List ℕ) → Type 0
+TellsOfFlight command flying labels first settings course outcome answer =
+    (report : List ℕ) × (is : IsFlown flying labels first settings course outcome report)
+    × IsFlightDocument command flying labels first settings course outcome report is answer
+
+-- what was added to drain a text, as a document tells it
+abbrev pub drained_of : Added → DrainedTold
+drained_of added = record { cycles = added.cycles; late = added.late }
+
+-- where that was asked for
+abbrev pub drained_told : (drain : Bool) → Added → Option DrainedTold
+drained_told false added = None
+drained_told true added = Some (drained_of added)
+
+-- The document of an answer (docs/JSON.md). It tells what the text of the same answer tells: both are of one record. Of packets in flight
+-- that aren't run, and of their check, it has the lines of the text.
+abbrev pub Documents : (ask : Ask) (outcome : Outcome) (text told : List ℕ) → IsTextAnswer ask outcome text told → (answer : List ℕ) → Type 0
+Documents (Listing packing) Done text told is answer = answer ≡ document (codes "pack") (blocks_member is.packets)
+Documents (Picture showing) Done text told is answer = answer ≡ document (codes "show") (shown_members showing.summary is.shown)
+Documents (ListingPicture showing) Done text told is answer = answer ≡ document (codes "show") (shown_members showing.summary is.drawn.shown)
+Documents (PacketsPicture showing) Done text told is answer = answer ≡ document (codes "show") (shown_members showing.summary is.drawn.shown)
+Documents (SerialReport course settings apart) outcome text told is answer =
+    IsSerialDocument is.program settings course outcome told is.reported answer
+Documents (PacketReport packing course settings) outcome text told is answer =
+    IsPacketDocument (codes "run") is.packets settings course outcome told is.reported.reported answer
+Documents (StandingReport form course settings) outcome text told is answer =
+    IsPacketDocument (codes "sim") is.packets settings course outcome told is.reported answer
+Documents (FlightReport course from settings) outcome text told is answer =
+    IsFlightDocument (codes "exec") is.flying is.labels is.first settings course outcome told is.flown answer
+Documents (Adoption false) Done text told is answer = answer ≡ document (codes "adopt") (adopted_members None is.packets)
+Documents (Adoption true) (Drained added) text told is answer = answer ≡ document (codes "adopt") (adopted_members (Some (drained_of added)) is.adopted.packets)
+Documents (Reaching name ask) outcome text told is answer = Documents ask outcome is.0 told is.2 answer
+Documents (Verdicts form) Done text told is answer = IsCheckDocument is.program is.packets answer true
+Documents (Verdicts form) NotSame text told is answer = IsCheckDocument is.program is.packets answer false
+Documents (LoopVerdicts trips apart) outcome text told is answer = answer ≡ lines_document (codes "check") told
+Documents (LoopListing verbose packing trips apart) outcome text told is answer = answer ≡ lines_document (codes "pack") told
+Documents (LoopPicture packing trips apart) outcome text told is answer = answer ≡ lines_document (codes "show") told
+Documents (LoopReport verbose packing trips apart course settings) (Looped lines has) text told is answer =
+    IsFlightDocument (codes "run") is.flying is.begins.labels is.first settings course is.outcome told is.flown answer
+Documents _ _ text told is answer = ⊥
+
+-- What answers a text: that text, or its document.
+abbrev pub IsAnswer : Ask → Outcome → List ℕ → List ℕ → Type 0
+IsAnswer (Document ask) outcome text answer =
+    (told : List ℕ) × (is : IsTextAnswer ask outcome text told) × Documents ask outcome text told is answer
+IsAnswer (Reaching name ask) outcome text answer = (taken : List ℕ) × IsTaken name text taken × IsAnswer ask outcome taken answer
+IsAnswer ask outcome text answer = IsTextAnswer ask outcome text answer
 
 -- ---- refusals
 
@@ -405,6 +520,7 @@ IsRefusedText (StandingReport form course settings) text message = SaysNoPackets
 IsRefusedText (FlightReport course from settings) text message = IsNoFlight from text message
 IsRefusedText (Adoption drain) text message = IsNoPackets drain text message
 IsRefusedText (Reaching name ask) text message = IsUnreached name text message ⊎ ((taken : List ℕ) × IsTaken name text taken × IsRefusedText ask taken message)
+IsRefusedText (Document ask) text message = IsRefusedText ask text message
 IsRefusedText (Verdicts form) text message = IsNoCheck form text message
 IsRefusedText (LoopVerdicts trips apart) text message = IsNoLoopCheck trips text message
 IsRefusedText (LoopListing verbose packing trips apart) text message = IsUnlooped trips text message

@@ -5,13 +5,17 @@ ghost use Rattle.c62_listing.specs.Listing.{listing};
 ghost use Rattle.c62_packet.specs.Packets.{is_closed};
 ghost use Rattle.c62_show.specs.Picture.{picture};
 ghost use Rattle.c62_show.specs.Summary.{summary};
-ghost use Rattle.c62_command.specs.CommandLine.{Listing, Picture, SerialReport, PacketReport, StandingReport, Adoption, ask_of};
+ghost use Rattle.c62_command.specs.CommandLine.{Listing, Picture, SerialReport, PacketReport, StandingReport, Adoption, Document, ask_of, ask_told};
 ghost use Rattle.c62_answer.specs.Drawing.{drawing};
 ghost use Rattle.c62_answer.specs.Run.{added_of, Gives, GivesProgram, limit_of, most_of};
 ghost use Rattle.c62_answer.specs.declared.parting.TheConstants.{MOST_BYTES};
 
 use crate::checking::verdicts;
 use crate::checking_loops::loop_verdicts;
+use crate::documents::{
+    adopt_document, loop_listing_document, loop_picture_document, loop_verdicts_document,
+    pack_document, show_document, show_listing_document, show_packets_document, verdicts_document,
+};
 use crate::failure::Failure;
 use crate::outcome::{Added, Outcome, Reply};
 use crate::packets::packets_in;
@@ -19,11 +23,14 @@ use crate::parting;
 use crate::pipelining::{loop_listing, loop_picture, loop_report};
 use crate::reaching::{adopted_as, exec_as};
 use crate::run::{packet_run, serial_run};
+use crate::run_documents::{
+    exec_document, loop_report_document, run_document, serial_document, sim_document,
+};
 use crate::schedule::{packets_by_turns, packets_by_workers, shown_by_turns, shown_by_workers};
 use crate::standing::{show_listing, show_packets};
 use c62_adopt::laws::texts_that_stand_lack_nothing;
 use c62_adopt::{Adopted, adopt};
-use c62_command::{Form, Packing, Request, Showing, Start};
+use c62_command::{Command, Form, Packing, Rendering, Request, Showing, Start};
 use c62_listing::list;
 use c62_op::Reg;
 use c62_packet::Packets;
@@ -172,7 +179,7 @@ fn sim(alloc: Global, form: Form, text: &[u8], start: &Start) -> Result<Reply, F
 }
 
 /// What was added to a text that was adopted.
-fn added_in(adopted: &Adopted) -> Added
+pub(crate) fn added_in(adopted: &Adopted) -> Added
     ensures { result ≡ added_of adopted.now.added adopted.now.late }
 {
     Added {
@@ -194,12 +201,8 @@ pub(crate) fn adopted(alloc: Global, text: &[u8], drain: bool) -> Result<Reply, 
     })
 }
 
-/// The answer to a text.
-///
-/// # Errors
-///
-/// The first fault of the text, as the page of the command says, or that memory ran out.
-pub fn answer<H: AllocGlobal + Threads + Wait + Sync>(
+/// The answer to a text, as text.
+fn answer<H: AllocGlobal + Threads + Wait + Sync>(
     rt: &H,
     request: &Request,
     text: &[u8],
@@ -242,6 +245,50 @@ pub fn answer<H: AllocGlobal + Threads + Wait + Sync>(
     }
 }
 
+/// The document of an answer to a text.
+fn document<H: AllocGlobal + Threads + Wait + Sync>(
+    rt: &H,
+    request: &Request,
+    text: &[u8],
+) -> Result<Reply, Failure>
+    ensures { Gives (Document (ask_of request.now)) text.now result }
+{
+    match request {
+        Request::Pack(packing) => pack_document(rt, text, *packing),
+        Request::Show(showing) => show_document(rt, text, *showing),
+        Request::ShowListing(showing) => show_listing_document(rt.alloc(), text, *showing),
+        Request::ShowPackets(showing) => show_packets_document(rt.alloc(), text, *showing),
+        Request::Run(packing, start) => run_document(rt, text, *packing, start),
+        Request::Serial(start, apart) => serial_document(rt.alloc(), text, start, apart),
+        Request::Sim(form, start) => sim_document(rt.alloc(), *form, text, start),
+        Request::Exec(start) => exec_document(rt.alloc(), text, start),
+        Request::Adopt(adopting) => adopt_document(rt.alloc(), text, adopting),
+        Request::Check(form) => verdicts_document(rt.alloc(), *form, text),
+        Request::CheckLoops(promises) => loop_verdicts_document(rt.alloc(), promises, text),
+        Request::PackLoops(looping) => loop_listing_document(rt, text, looping),
+        Request::ShowLoops(looping) => loop_picture_document(rt, text, looping),
+        Request::RunLoops(looping, flight) => loop_report_document(rt, text, looping, flight),
+    }
+}
+
+/// The answer to a text: that text, or its document.
+///
+/// # Errors
+///
+/// The first fault of the text, as the page of the command says, or that memory ran out.
+pub fn respond<H: AllocGlobal + Threads + Wait + Sync>(
+    rt: &H,
+    command: &Command,
+    text: &[u8],
+) -> Result<Reply, Failure>
+    ensures { Gives (ask_told command.now) text.now result }
+{
+    match command.rendering {
+        Rendering::Text => answer(rt, &command.request, text),
+        Rendering::Json => document(rt, &command.request, text),
+    }
+}
+
 /// The most bytes of a text of packets in this form.
 fn most_of(form: Form) -> usize
     ensures limit { result ≡ most_of form }
@@ -253,8 +300,8 @@ fn most_of(form: Form) -> usize
     }
 }
 
-/// The most bytes of a text that is answered.
-pub fn limit_of(request: &Request) -> usize
+/// The most bytes of a text that is answered, as text.
+fn limit_of(request: &Request) -> usize
     ensures limit { result ≡ limit_of (ask_of request.now) }
     ensures most { result ≤ MOST_BYTES }
 {
@@ -271,4 +318,13 @@ pub fn limit_of(request: &Request) -> usize
             c62_read::MOST_BYTES
         }
     }
+}
+
+/// The most bytes of a text that is answered.
+#[tactic(auto, using(crate::proofs::Documented::limit_told))]
+pub fn limit_for(command: &Command) -> usize
+    ensures limit { result ≡ limit_of (ask_told command.now) }
+    ensures most { result ≤ MOST_BYTES }
+{
+    limit_of(&command.request)
 }

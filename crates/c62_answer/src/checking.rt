@@ -64,7 +64,7 @@ fn written_part(alloc: Global, text: &[u8]) -> Result<Packets, Failure>
 }
 
 /// The packets that are to be checked.
-fn packets_part(alloc: Global, form: Form, text: &[u8]) -> Result<Packets, Failure>
+pub(crate) fn packets_part(alloc: Global, form: Form, text: &[u8]) -> Result<Packets, Failure>
     ensures { GivesPacketsPart form text.now result }
 {
     match form {

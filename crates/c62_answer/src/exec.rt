@@ -23,7 +23,7 @@ use c62_serial::State;
 use std::alloc::{AllocError, Global};
 
 /// Whether a run ended by its limit.
-fn is_flight_limit(stop: Stop) -> bool
+pub(crate) fn is_flight_limit(stop: Stop) -> bool
     ensures { result ≡ is_flight_limit stop }
 {
     match stop {
@@ -106,7 +106,7 @@ pub(crate) fn flown(
 }
 
 /// The name of the label with whose row a run begins.
-fn name_of(start: &FlightStart) -> Option<&[u8]>
+pub(crate) fn name_of(start: &FlightStart) -> Option<&[u8]>
     ensures { option_copied result ≡ option_map (λ name. name.items) start.now.from }
 {
     match &start.from {

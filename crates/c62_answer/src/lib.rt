@@ -5,6 +5,7 @@
 mod answer;
 mod checking;
 mod checking_loops;
+mod documents;
 mod exec;
 mod failure;
 mod input;
@@ -16,6 +17,7 @@ mod parting;
 mod pipelining;
 mod reaching;
 mod run;
+mod run_documents;
 mod schedule;
 mod standing;
 mod tool;

@@ -47,7 +47,7 @@ fn looped_program(alloc: Global, text: &[u8], promises: &Promises) -> Result<Pro
 }
 
 /// The packets of a program, packed as is asked for.
-fn packed<H: AllocGlobal + Threads + Wait + Sync>(
+pub(crate) fn packed<H: AllocGlobal + Threads + Wait + Sync>(
     rt: &H,
     program: Program,
     packing: Packing,
@@ -64,14 +64,14 @@ fn packed<H: AllocGlobal + Threads + Wait + Sync>(
 
 /// A program, and packets of it whose loops are pipelined.
 #[derive(Drop)]
-struct Looped {
-    program: Program,
-    written: Pipelining,
+pub(crate) struct Looped {
+    pub program: Program,
+    pub written: Pipelining,
 }
 
 /// The packets of a text whose loops are pipelined.
 #[tactic(auto, using(crate::proofs::Looping::unread_loops, crate::proofs::Looping::looped_text))]
-fn make_looped<H: AllocGlobal + Threads + Wait + Sync>(
+pub(crate) fn make_looped<H: AllocGlobal + Threads + Wait + Sync>(
     rt: &H,
     text: &[u8],
     looping: &Looping,
@@ -94,7 +94,7 @@ fn make_looped<H: AllocGlobal + Threads + Wait + Sync>(
 }
 
 /// What is told of loops, where that is asked for.
-fn told_lines(
+pub(crate) fn told_lines(
     alloc: Global,
     verbose: bool,
     program: &Program,

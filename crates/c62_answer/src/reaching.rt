@@ -15,7 +15,7 @@ use c62_rows::RowsFault;
 use std::alloc::Global;
 
 /// What is taken of a text from the label of this name on.
-fn taken_from(alloc: Global, text: &[u8], name: &[u8]) -> Result<Vec<u8>, Failure>
+pub(crate) fn taken_from(alloc: Global, text: &[u8], name: &[u8]) -> Result<Vec<u8>, Failure>
     ensures { MatchResult result (λ taken. IsTaken name.now text.now taken.items) (TakesNothing name.now text.now) }
 {
     match reached_text(alloc, text, name) {

@@ -63,7 +63,7 @@ pub fn opening(alloc: Global, settings: &[Setting]) -> Result<State, AllocError>
 }
 
 /// Whether a chain ended by its limit.
-fn is_limit(stop: End) -> bool
+pub(crate) fn is_limit(stop: End) -> bool
     ensures { result ≡ is_limit stop }
 {
     match stop {

@@ -15,7 +15,7 @@ use c62_standing::{Details, shown_as_they_stand};
 use std::alloc::{AllocError, Global};
 
 /// What is told of packets beside their picture.
-fn details_of(showing: Showing) -> Details
+pub(crate) fn details_of(showing: Showing) -> Details
     ensures { result ≡ details_of showing }
 {
     Details {

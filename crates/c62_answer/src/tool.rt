@@ -4,15 +4,15 @@ ghost use Rattle.std.specs.Prelude.{◌≡◌, ◌+◌, None, IfErr, IfOk, OnOk,
 ghost use Rattle.std.specs.Io.KnownBytes.{Appends, Keeps};
 ghost use Rattle.c62_answer.specs.Message.{Tells, told_of};
 ghost use Rattle.c62_answer.specs.Run.{TakesAtMost, TakesAsked, Does, IsDone, Fails, HasFailed, IsRun, IsRunBy, IsRunOnBytes, limit_of, streams};
-ghost use Rattle.c62_command.specs.CommandLine.{ask_of, asked};
+ghost use Rattle.c62_command.specs.CommandLine.{ask_told, asked};
 
-use crate::answer::{answer, limit_of};
+use crate::answer::{limit_for, respond};
 use crate::failure::Failure;
 use crate::input::read_text;
 use crate::message::{report, tell_outcome};
 use crate::outcome::Outcome;
 use crate::writing::{Refused, write_whole};
-use c62_command::{Request, command_of};
+use c62_command::{Command, command_of};
 use std::convert::AsStr;
 use std::io::{Read, Write};
 use std::sync::Wait;
@@ -36,18 +36,18 @@ fn write_out<W: Write>(output: &mut W, bytes: &[u8]) -> Result<(), Failure>
 /// Reads a text, and writes the answer to it.
 fn perform<H: AllocGlobal + Threads + Wait + Sync, R: Read, W: Write>(
     rt: &H,
-    request: &Request,
+    command: &Command,
     reader: &mut R,
     output: &mut W,
 ) -> Result<Outcome, Failure>
-    ensures ok { IfOk result (λ outcome. Does (ask_of request.now) outcome (R.remaining reader.old)
+    ensures ok { IfOk result (λ outcome. Does (ask_told command.now) outcome (R.remaining reader.old)
         (W.contents output.old) (W.contents output.new)) }
-    ensures err { IfErr result (Fails (ask_of request.now) (R.remaining reader.old) (W.contents output.old)
+    ensures err { IfErr result (Fails (ask_told command.now) (R.remaining reader.old) (W.contents output.old)
         (W.contents output.new)) }
-    ensures most { TakesAtMost (limit_of (ask_of request.now) + 1) (R.remaining reader.old) (R.remaining reader.new) }
+    ensures most { TakesAtMost (limit_of (ask_told command.now) + 1) (R.remaining reader.old) (R.remaining reader.new) }
 {
-    let text = read_text(rt.alloc(), reader, limit_of(request))?;
-    let reply = answer(rt, request, &text)?;
+    let text = read_text(rt.alloc(), reader, limit_for(command))?;
+    let reply = respond(rt, command, &text)?;
     write_out(output, &reply.text)?;
     Ok(reply.outcome)
 }
@@ -66,8 +66,8 @@ fn run<H: AllocGlobal + Threads + Wait + Sync, S: AsStr, R: Read, W: Write>(
     ensures unread { asked (map S.text words.now) ≡ None → Keeps (R.remaining reader.old) (R.remaining reader.new) }
     ensures most { TakesAsked (map S.text words.now) (R.remaining reader.old) (R.remaining reader.new) }
 {
-    let request = command_of(rt.alloc(), words)?;
-    perform(rt, &request, reader, output)
+    let command = command_of(rt.alloc(), words)?;
+    perform(rt, &command, reader, output)
 }
 
 /// How a run ended: its status, and whether the error stream took all that was told.

@@ -8,6 +8,7 @@ use Rattle.c62_flight.specs.Text.{Text}
 use Rattle.c62_loop_match.specs.declared.promise.Promise.{Promise}
 use Rattle.c62_check_loop.specs.declared.verdict.LoopVerdict.{LoopVerdict}
 use Rattle.c62_check_rest.specs.Starts.{Starts}
+use Rattle.c62_check_loops.specs.declared.told.LoopsJudged.{LoopsJudged}
 use Rattle.c62_check_loops.specs.declared.told.Told.{Told}
 use Rattle.c62_check_loops.specs.declared.verdict.BlockVerdict.{BlockVerdict}
 use Rattle.c62_check_loops.specs.Lines.{lines_from, rows_line}
@@ -17,17 +18,27 @@ use Rattle.c62_check_loops.specs.Fit.{are_fit, are_all_rows}
 
 -- what is told of so many first blocks
 pub record AreTold (trips : List (Name × ℕ)) (promise : Promise) (loops : List (Option LoopVerdict)) (starts : Starts) (blocks : List Serial) (packets : Text) (count : ℕ) (told : Told) : Type 0 where
-  pub verdicts : List BlockVerdict
-  pub are : AreVerdicts promise loops starts blocks packets count verdicts
-  pub lines : told.text.items ≡ lines_from blocks 0 verdicts
-  pub same : told.same ≡ list_all is_same verdicts
-  pub plain : told.plain ≡ list_all is_plain verdicts
-  pub good : told.good ≡ are_good trips blocks 0 verdicts
-  pub fit : told.fit ≡ are_fit blocks loops starts 0 verdicts
+  pub are : AreVerdicts promise loops starts blocks packets count told.verdicts.items
+  pub same : told.same ≡ list_all is_same told.verdicts.items
+  pub plain : told.plain ≡ list_all is_plain told.verdicts.items
+  pub good : told.good ≡ are_good trips blocks 0 told.verdicts.items
+  pub fit : told.fit ≡ are_fit blocks loops starts 0 told.verdicts.items
 
 -- the blocks' rows are all rows of the packets, one block's behind the other's
 abbrev pub stand_in_turn : List (Option LoopVerdict) → Starts → List Serial → List BlockVerdict → Text → Bool
 stand_in_turn loops starts blocks verdicts packets = are_fit blocks loops starts 0 verdicts && are_all_rows starts (length blocks) (length packets.rows)
+
+-- This is found of the blocks of a text and packets, where so many trips are promised of the loops of these labels, and that accesses from
+-- two of these registers are apart. Rows are wanting where all blocks are the same, and their rows aren't all rows, one behind the other.
+pub record AreLoopsJudged (trips : List (Name × ℕ)) (apart : List Reg) (blocks : List Serial) (packets : Text) (judged : LoopsJudged) : Type 0 where
+  pub promise : Promise
+  pub promised : IsPromiseOf apart promise
+  pub loops : List (Option LoopVerdict)
+  pub starts : Starts
+  pub are : AreVerdicts promise loops starts blocks packets (length blocks) judged.verdicts.items
+  pub rows : judged.wanting ≡ (list_all is_same judged.verdicts.items && not (stand_in_turn loops starts blocks judged.verdicts.items packets))
+  pub all : judged.same ≡ (are_good trips blocks 0 judged.verdicts.items && stand_in_turn loops starts blocks judged.verdicts.items packets)
+  pub bare : judged.plain ≡ list_all is_plain judged.verdicts.items
 
 -- These lines are told of the blocks of a text and packets, where so many trips are promised of the loops of these labels, and that
 -- accesses from two of these registers are apart. All is the same where each block is, as a loop from no more trips on than are promised, or

@@ -13,4 +13,5 @@ mod verdict;
 
 pub use granted::{first_loopless, is_granted};
 pub use promised::promise_of;
-pub use told::{LoopsChecked, check_loops};
+pub use told::{LoopsChecked, LoopsJudged, check_loops, judge_loops};
+pub use verdict::BlockVerdict;

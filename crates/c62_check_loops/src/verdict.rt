@@ -21,7 +21,7 @@ use std::alloc::{AllocError, Global};
 
 /// What is told of a block of a text.
 #[derive(Drop)]
-pub(crate) enum BlockVerdict {
+pub enum BlockVerdict {
     /// It is a loop under a counter, of which this is told.
     Loop(LoopVerdict),
     /// It is told with a loop, or has nothing in it.

@@ -166,8 +166,9 @@ unfolding ask_in
 none_told found ask none is = rw (none, is) refl
 
 -- what a subcommand asks for, told so
-pub told_so : (name : Text) (rows : List Row) (ask : Ask) (rendering : Rendering) → what_in (Some (name, rows)) ≡ Some ask
-    → rendering ≡ rendering_of rows → ask_in (Some (name, rows)) ≡ Some (rendered rendering ask)
+pub told_so : (name : Text) (rows : List Row) (ask : Ask) (rendering : Rendering)
+    → what_in (Some (name, rows)) ≡ Some ask → rendering ≡ rendering_of rows
+    → ask_in (Some (name, rows)) ≡ Some (rendered rendering ask)
 unfolding ask_in
 told_so name rows ask rendering is same =
     ap (option_map (rendered (rendering_of rows))) is

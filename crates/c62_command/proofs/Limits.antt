@@ -80,7 +80,8 @@ number_in least most e = ((λ count. absurd cc), values_pass false (parser.Signe
 blocks_checked : Each (AreChecked (codes "blocks") IsBlocks) (built tool_app).subs
 blocks_checked =
     (other ⨾ other ⨾ other ⨾ other ⨾ other ⨾ other ⨾ other ⨾ other ⨾ other ⨾ other ⨾ tt)
-    ⨾ (other ⨾ other ⨾ other ⨾ other ⨾ other ⨾ other ⨾ other ⨾ other ⨾ other ⨾ other ⨾ other ⨾ other ⨾ other ⨾ other ⨾ tt)
+    ⨾ (other ⨾ other ⨾ other ⨾ other ⨾ other ⨾ other ⨾ other ⨾ other ⨾ other ⨾ other ⨾ other ⨾ other ⨾ other
+    ⨾ other ⨾ tt)
     ⨾ (other ⨾ other ⨾ other ⨾ other ⨾ other ⨾ other ⨾ other ⨾ other ⨾ other ⨾ number_in 1 1000000 ⨾ other
     ⨾ other ⨾ other ⨾ other ⨾ other ⨾ tt)
     ⨾ (other ⨾ number_in 1 1000000 ⨾ other ⨾ other ⨾ other ⨾ other ⨾ other ⨾ tt)
@@ -109,7 +110,8 @@ eject_checked =
 cycles_checked : Each (AreChecked (codes "cycles") IsCycles) (built tool_app).subs
 cycles_checked =
     (other ⨾ other ⨾ other ⨾ other ⨾ other ⨾ other ⨾ other ⨾ other ⨾ other ⨾ other ⨾ tt)
-    ⨾ (other ⨾ other ⨾ other ⨾ other ⨾ other ⨾ other ⨾ other ⨾ other ⨾ other ⨾ other ⨾ other ⨾ other ⨾ other ⨾ other ⨾ tt)
+    ⨾ (other ⨾ other ⨾ other ⨾ other ⨾ other ⨾ other ⨾ other ⨾ other ⨾ other ⨾ other ⨾ other ⨾ other ⨾ other
+    ⨾ other ⨾ tt)
     ⨾ (other ⨾ other ⨾ other ⨾ other ⨾ other ⨾ other ⨾ other ⨾ other ⨾ number_in 1 1000000000 ⨾ other ⨾ other
     ⨾ other ⨾ other ⨾ other ⨾ other ⨾ tt)
     ⨾ (other ⨾ other ⨾ other ⨾ other ⨾ other ⨾ other ⨾ other ⨾ tt)

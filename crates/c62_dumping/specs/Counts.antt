@@ -3,7 +3,7 @@ use Rattle.std.specs.Prelude.{ℕ, List, [], ◌∷◌}
 use Rattle.std.specs.List.{flat_map}
 use Rattle.c62_command.specs.declared.setting.Setting.{Setting as Given}
 use Rattle.c62_command.specs.declared.setting.Setting.TheVariants as given
-use Rattle.c62_command.specs.CommandLine.{Ask, SerialReport, PacketReport, StandingReport, FlightReport, LoopReport, Reaching}
+use Rattle.c62_command.specs.CommandLine.{Ask, SerialReport, PacketReport, StandingReport, FlightReport, LoopReport, Reaching, Document}
 
 -- how many bytes a setting writes to a file, where it does
 abbrev pub count_in : Given → List ℕ
@@ -22,6 +22,7 @@ settings_asked (StandingReport form course settings) = settings
 settings_asked (FlightReport course from settings) = settings
 settings_asked (LoopReport verbose packing trips apart course settings) = settings
 settings_asked (Reaching from ask) = settings_asked ask
+settings_asked (Document ask) = settings_asked ask
 settings_asked _ = []
 
 abbrev pub counts_asked : Ask → List ℕ

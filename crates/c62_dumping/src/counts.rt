@@ -2,10 +2,10 @@
 
 ghost use Rattle.std.specs.Prelude.{◌≡◌, ◌++◌, IfOk, OnOk};
 ghost use Rattle.std.specs.List.{flat_map};
-ghost use Rattle.c62_command.specs.CommandLine.{ask_of};
+ghost use Rattle.c62_command.specs.CommandLine.{ask_of, ask_told};
 ghost use Rattle.c62_dumping.specs.Counts.{count_in, counts_asked, counts_in, settings_asked};
 
-use c62_command::{Request, Setting};
+use c62_command::{Command, Request, Setting};
 use std::alloc::{AllocError, Global};
 
 /// Adds how many bytes a setting writes to a file, where it does.
@@ -34,12 +34,8 @@ fn counts_in(alloc: Global, settings: &[Setting]) -> Result<Vec<usize>, AllocErr
     Ok(counts)
 }
 
-/// How many bytes go to each file of a run that is asked for, in the order of its settings. What is no run has none.
-///
-/// # Errors
-///
-/// `AllocError` where memory ran out.
-pub fn counts_asked(alloc: Global, request: &Request) -> Result<Vec<usize>, AllocError>
+/// How many bytes go to each file of what a request asks for.
+fn counts_of(alloc: Global, request: &Request) -> Result<Vec<usize>, AllocError>
     ensures { IfOk result (λ counts. counts.items ≡ counts_asked (ask_of request.now)) }
 {
     match request {
@@ -58,4 +54,16 @@ pub fn counts_asked(alloc: Global, request: &Request) -> Result<Vec<usize>, Allo
         | Request::PackLoops(_)
         | Request::ShowLoops(_) => Ok(Vec::new(alloc)),
     }
+}
+
+/// How many bytes go to each file of a run that is asked for, in the order of its settings. What is no run has none.
+///
+/// # Errors
+///
+/// `AllocError` where memory ran out.
+#[tactic(auto, using(crate::proofs::Counted::counts_told))]
+pub fn counts_asked(alloc: Global, command: &Command) -> Result<Vec<usize>, AllocError>
+    ensures { IfOk result (λ counts. counts.items ≡ counts_asked (ask_told command.now)) }
+{
+    counts_of(alloc, &command.request)
 }

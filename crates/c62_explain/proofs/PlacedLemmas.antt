@@ -1,11 +1,16 @@
 -- Faults with their columns, and the lines that tell them.
-use Rattle.std.proofs.Common.{arith, ◌≡◌, ℕ, suc, ◌+◌, List, [], ◌∷◌, ◌++◌, length, refl, sym, ap, ◌∙◌, append_assoc}
-use Rattle.std.specs.Prelude.{All, map, take, codes, decimal}
+use Rattle.std.proofs.Common.{arith, ◌≡◌, ℕ, suc, ◌+◌, ◌<◌, List, [], ◌∷◌, ◌++◌, length, get_or, drop}
+use Rattle.std.proofs.Common.{refl, sym, ap, ◌∙◌}
+use Rattle.std.proofs.Common.{append_assoc}
+use Rattle.std.proofs.lemmas.List.{map-append}
+use Rattle.std.proofs.lemmas.List.Elements.{All-push}
+use Rattle.std.proofs.Math.Seq.{drop-cons}
+use Rattle.std.specs.Prelude.{All, map, take}
 use Rattle.std.specs.List.{flat_map}
 use Rattle.c62_line.specs.declared.fault.ReadFault.{ReadFault}
 use Rattle.c62_lint.specs.Faults.{faults_in, refusal_of}
 use Rattle.c62_explain.specs.declared.placed.PlacedFault.{PlacedFault}
-use Rattle.c62_explain.specs.Picture.{few, lint_line, Lints, LintsOne, LintsText}
+use Rattle.c62_explain.specs.Picture.{few, Lints, LintsOne, LintsText}
 use Rattle.c62_explain.specs.Placed.{ArePlaced, IsPlaced, LintsPlaced, placed_line}
 
 tells_one : (name text : List ℕ) (placed : PlacedFault) → IsPlaced text placed
@@ -44,3 +49,31 @@ lints_text name text most out lints = record {
   all = refusals_of lints.placed ∙ lints.are.faults;
   says = rw lints.says (tells_all name text lints.placed lints.are.there);
 }
+
+-- one more of the faults, with its column
+next_same : (faults : List ReadFault) (index : ℕ) (all : List PlacedFault) (placed : PlacedFault) (fault : ReadFault)
+    → index < length faults → placed.fault ≡ get_or faults index fault
+    → map (λ each. each.fault) all ++ drop index faults ≡ faults
+    → map (λ each. each.fault) (all ++ placed ∷ []) ++ drop (index + 1) faults ≡ faults
+next_same faults index all placed fault within at whole =
+    let told : List ReadFault = map (λ (each : PlacedFault). each.fault) all in
+    let one : suc index ≡ index + 1 = omega arith in
+    let more : drop index faults ≡ placed.fault ∷ drop (index + 1) faults =
+    drop-cons faults index fault within
+    ∙ (ap (λ (n : ℕ). get_or faults index fault ∷ drop n faults) one
+    ∙ ap (λ (it : ReadFault). it ∷ drop (index + 1) faults) (sym at)) in
+    ap (λ (front : List ReadFault). front ++ drop (index + 1) faults)
+    (map-append (λ (each : PlacedFault). each.fault) all (placed ∷ []))
+    ∙ (append_assoc told (placed.fault ∷ []) (drop (index + 1) faults)
+    ∙ (ap (λ (rest : List ReadFault). told ++ rest) (sym more) ∙ whole))
+
+pub placed_next : (text : List ℕ) (faults : List ReadFault) (index : ℕ) (all new : List PlacedFault)
+    (placed : PlacedFault) (fault : ReadFault) → index < length faults
+    → placed.fault ≡ get_or faults index fault → IsPlaced text placed
+    → (map (λ each. each.fault) all ++ drop index faults ≡ faults) × All (IsPlaced text) all
+    → new ≡ all ++ placed ∷ []
+    → (map (λ each. each.fault) new ++ drop (index + 1) faults ≡ faults) × All (IsPlaced text) new
+placed_next text faults index all new placed fault within at is before pushed = rw pushed (
+  next_same faults index all placed fault within at before.0,
+  All-push (IsPlaced text) all placed before.1 is,
+)

@@ -1,8 +1,7 @@
 -- How a fault is shown (docs/FAULTS.md, "What `--explain` prints" and "All faults at once").
-use Rattle.std.specs.Prelude.{◌≡◌, ◌⊎◌, ℕ, ◌+◌, ◌-◌, nat_lt, ◌==◌, List, [], ◌∷◌, ◌++◌, length, map, take, max, min, decimal, replicate, codes, unwrap_or, slice_get, if◌then◌else◌}
+use Rattle.std.specs.Prelude.{◌≡◌, ◌⊎◌, ℕ, ◌+◌, ◌-◌, ◌==◌, List, [], ◌∷◌, ◌++◌, length, map, take, max, min, decimal, replicate, codes, unwrap_or, slice_get, if◌then◌else◌}
 use Rattle.std.specs.List.{flat_map}
 use Rattle.c62_token.specs.Token.{is_allowed}
-use Rattle.c62_line.specs.declared.fault.Cause.{Cause}
 use Rattle.c62_line.specs.declared.fault.ReadFault.{ReadFault}
 use Rattle.c62_line.specs.Fault.{cause_name}
 use Rattle.c62_read.specs.Text.{lines_of}

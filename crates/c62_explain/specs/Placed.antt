@@ -1,7 +1,6 @@
 -- Faults of a serial text with their columns (docs/FAULTS.md, "All faults at once").
 use Rattle.std.specs.Prelude.{◌≡◌, ℕ, ◌+◌, List, ◌++◌, map, take, All, codes, decimal}
 use Rattle.std.specs.List.{flat_map}
-use Rattle.c62_line.specs.declared.fault.ReadFault.{ReadFault}
 use Rattle.c62_line.specs.Fault.{cause_name}
 use Rattle.c62_lint.specs.Faults.{faults_in, refusal_of}
 use Rattle.c62_place.specs.declared.place.Place.{Place}

@@ -1,1 +1,1 @@
-pub mod WarningLemmas
+pub mod RemarkLemmas

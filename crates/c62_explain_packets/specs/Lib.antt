@@ -7,3 +7,4 @@ pub mod Place
 pub mod Warned
 pub mod Told
 pub mod Listed
+pub mod Remarks

@@ -1,9 +1,7 @@
 -- Which lines of a block share what breaks a packet rule (docs/MACHINE.md, "Packet rules").
-use Rattle.std.specs.Prelude.{ℕ, ◌+◌, Bool, false, not, ◌==◌, ◌&&◌, List, Option, Some, None, map}
+use Rattle.std.specs.Prelude.{ℕ, Bool, false, not, ◌==◌, ◌&&◌, List, Option, Some, None, map}
 use Rattle.std.specs.List.{filter, list_any}
-use Rattle.c62_op.specs.declared.register.Reg.{Reg}
 use Rattle.c62_op.specs.declared.register.Unit.{Unit as FunctionalUnit}
-use Rattle.c62_op.specs.Takes.{same_reg}
 use Rattle.c62_insn.specs.declared.insn.Insn.{Insn}
 use Rattle.c62_insn.specs.Insn.{unit_of}
 use Rattle.c62_rules.specs.declared.resource.Resource.{Resource}

@@ -44,11 +44,11 @@ abbrev pub verb : (loads : Bool) → List ℕ
 verb loads = if loads then codes " loads" else codes " writes"
 
 abbrev pub later : ℕ → List ℕ
-later missing = if missing == 1 then codes " cycle later\n" else codes " cycles later\n"
+later missing = if missing == 1 then codes " cycle later" else codes " cycles later"
 
--- `warning: line 2 reads A5`
+-- `line 2 reads A5`
 abbrev pub reader_text : EarlyRead → List ℕ
-reader_text early = codes "warning: line " ++ decimal early.line ++ codes " reads " ++ register_name early.register
+reader_text early = codes "line " ++ decimal early.line ++ codes " reads " ++ register_name early.register
 
 -- `, which line 1 loads`
 abbrev pub writer_text : EarlyRead → List ℕ
@@ -58,8 +58,13 @@ writer_text early = codes ", which line " ++ decimal early.writer ++ verb early.
 abbrev pub landing_text : EarlyRead → List ℕ
 landing_text early = codes ": it lands " ++ decimal early.missing ++ later early.missing
 
+-- what is said of a read in a delay slot
+unfoldable pub early_sentence : EarlyRead → List ℕ
+early_sentence early = reader_text early ++ writer_text early ++ landing_text early
+
+-- `warning: `, and that
 abbrev pub early_text : EarlyRead → List ℕ
-early_text early = reader_text early ++ writer_text early ++ landing_text early
+early_text early = codes "warning: " ++ early_sentence early ++ codes "\n"
 
 -- `FILE:LINE:COLUMN: `, at some column of the line that reads
 pub record Warns (name : List ℕ) (early : EarlyRead) (line : List ℕ) : Type 0 where

@@ -1,23 +1,15 @@
 //! The first fault of a text of packets as a line for editors.
 
 ghost use Rattle.std.specs.Prelude.{◌≡◌, ◌++◌, IfOk, OnOk};
-ghost use Rattle.c62_adopt_cut.specs.Drafted.{cut_of};
-ghost use Rattle.c62_adopt.specs.Answer.{code_cut};
-ghost use Rattle.c62_explain.specs.Picture.{Adds};
-ghost use Rattle.c62_explain_packets.specs.Listed.{TellsFound};
+ghost use Rattle.std.specs.List.{flat_map};
 ghost use Rattle.c62_explain_packets.specs.Linted.{IsLintedListing, IsLintedPackets};
-ghost use Rattle.c62_explain_packets.specs.Warned.{AreWarned, TellsFault, Warns, WarnsText, early_among, early_text, editors_place, fault_text, landing_text, later, reader_text, verb, writer_text};
+ghost use Rattle.c62_explain_packets.specs.Remarks.{TellsListingRemarks, TellsRemarks, fault_line, placed_line, read_line, remark_lines};
+ghost use Rattle.c62_explain_packets.specs.Warned.{early_sentence, early_text, editors_place, fault_text, landing_text, later, reader_text, verb, writer_text};
 
-use crate::early::{EarlyRead, early_reads};
-use crate::finding::{Finding, of_adopt, of_listing, place_in, without_bars};
+use crate::early::EarlyRead;
 use crate::help::push_register;
-use c62_adopt::{adopt, read_code};
-use c62_adopt_cut::{Cut, Draft, read_cut};
-use c62_explain::{line_at, push_position};
-use c62_insn::Reg;
-use c62_listing_reader::{ListFault, read_listing};
-use c62_place::{Place, token_at};
-use c62_token::Kind;
+use crate::remarks::{PlacedFinding, PlacedRead, Remarks, listing_remarks, packets_remarks};
+use c62_explain::push_column;
 use itoa::Buffer;
 use std::alloc::{AllocError, Global};
 
@@ -42,40 +34,16 @@ fn push_fault(out: &mut Vec<u8>, name: &str, sentence: &[u8]) -> Result<(), Allo
 }
 
 /// `FILE:LINE:COLUMN: error: NAME: SENTENCE`
-fn push_finding(
-    out: &mut Vec<u8>,
-    alloc: Global,
-    name: &[u8],
-    text: &[u8],
-    finding: Finding,
-) -> Result<(), AllocError>
-    ensures { OnOk result (Adds (TellsFault name.now text.now finding) out.old.items out.new.items) }
+#[tactic(auto, unfolding(crate::specs::Remarks::placed_line))]
+fn push_placed(out: &mut Vec<u8>, name: &[u8], placed: PlacedFinding) -> Result<(), AllocError>
+    ensures { OnOk result (out.new.items ≡ out.old.items ++ placed_line name.now placed) }
 {
-    let place = place_in(alloc, finding.what, line_at(text, finding.line))?;
-    push_position(out, name, finding.line, place)?;
-    push_fault(out, finding.what.name(), finding.what.sentence())
-}
-
-/// A line for this fault.
-fn line_of(alloc: Global, name: &[u8], text: &[u8], finding: Finding) -> Result<Vec<u8>, AllocError>
-    ensures { IfOk result (λ line. TellsFault name.now text.now finding line.items) }
-{
-    let mut line = Vec::new(alloc);
-    push_finding(&mut line, alloc, name, text, finding)?;
-    Ok(line)
-}
-
-/// Where a line names a register first; where it doesn't, its first token.
-fn register_place(line: &[u8], register: Reg) -> Place {
-    for before in 0..line.len() {
-        let place = token_at(line, before);
-        if let Kind::Register(reg) = Kind::of(&line[place.start..place.start + place.len]) {
-            if reg.is_same(register) {
-                return place;
-            }
-        }
-    }
-    token_at(line, 0)
+    push_column(out, name, placed.finding.line, placed.column)?;
+    push_fault(
+        out,
+        placed.finding.what.name(),
+        placed.finding.what.sentence(),
+    )
 }
 
 /// `FILE:LINE:COLUMN: `, the column from 1.
@@ -105,18 +73,18 @@ fn later(missing: u64) -> &'static [u8]
     ensures { result.now ≡ later missing }
 {
     if missing == 1 {
-        b" cycle later\n"
+        b" cycle later"
     } else {
-        b" cycles later\n"
+        b" cycles later"
     }
 }
 
-/// `warning: line R reads REG`
+/// `line R reads REG`
 fn push_reader(out: &mut Vec<u8>, early: EarlyRead) -> Result<(), AllocError>
     ensures { OnOk result (out.new.items ≡ out.old.items ++ reader_text early) }
 {
     let mut buffer = Buffer::new();
-    out.extend_from_slice(b"warning: line ")?;
+    out.extend_from_slice(b"line ")?;
     out.extend_from_slice(buffer.format(early.line).as_bytes())?;
     out.extend_from_slice(b" reads ")?;
     push_register(out, early.register)
@@ -142,81 +110,70 @@ fn push_landing(out: &mut Vec<u8>, early: EarlyRead) -> Result<(), AllocError>
     out.extend_from_slice(later(early.missing))
 }
 
-/// What is said of a read in a delay slot.
-fn push_early(out: &mut Vec<u8>, early: EarlyRead) -> Result<(), AllocError>
-    ensures { OnOk result (out.new.items ≡ out.old.items ++ early_text early) }
+/// Adds what is said of a read in a delay slot: `line R reads REG, which line W loads: it lands N cycles later`.
+///
+/// # Errors
+///
+/// `AllocError` where memory ran out.
+#[tactic(auto, unfolding(crate::specs::Warned::early_sentence))]
+pub fn push_early_sentence(out: &mut Vec<u8>, early: EarlyRead) -> Result<(), AllocError>
+    ensures { OnOk result (out.new.items ≡ out.old.items ++ early_sentence early) }
 {
     push_reader(out, early)?;
     push_writer(out, early)?;
     push_landing(out, early)
 }
 
-/// `FILE:LINE:COLUMN: warning: ..`, where the line names the register that it reads.
-fn push_warning(
-    out: &mut Vec<u8>,
-    alloc: Global,
-    name: &[u8],
-    text: &[u8],
-    early: EarlyRead,
-) -> Result<(), AllocError>
-    ensures { OnOk result (Adds (Warns name.now early) out.old.items out.new.items) }
+/// `warning: `, and what is said of a read in a delay slot.
+fn push_early(out: &mut Vec<u8>, early: EarlyRead) -> Result<(), AllocError>
+    ensures { OnOk result (out.new.items ≡ out.old.items ++ early_text early) }
 {
-    let line = without_bars(alloc, line_at(text, early.line))?;
-    let place = register_place(&line, early.register);
-    push_place(out, name, early.line, place.start.saturating_add(1))?;
-    push_early(out, early)
+    out.extend_from_slice(b"warning: ")?;
+    push_early_sentence(out, early)?;
+    out.extend_from_slice(b"\n")
+}
+
+/// `FILE:LINE:COLUMN: warning: ..`
+#[tactic(auto, unfolding(crate::specs::Remarks::read_line))]
+fn push_read(out: &mut Vec<u8>, name: &[u8], read: PlacedRead) -> Result<(), AllocError>
+    ensures { OnOk result (out.new.items ≡ out.old.items ++ read_line name.now read) }
+{
+    push_place(out, name, read.early.line, read.column)?;
+    push_early(out, read.early)
 }
 
 /// A warning for each of these reads.
-fn push_warnings(
+fn push_reads(out: &mut Vec<u8>, name: &[u8], reads: &[PlacedRead]) -> Result<(), AllocError>
+    ensures { OnOk result (out.new.items ≡ out.old.items ++ flat_map (read_line name.now) reads.now) }
+{
+    for read in reads {
+        push_read(out, name, *read)?;
+    }
+    Ok(())
+}
+
+/// A line for the fault, where there is one.
+fn push_found(
     out: &mut Vec<u8>,
-    alloc: Global,
     name: &[u8],
-    text: &[u8],
-    reads: &[EarlyRead],
+    fault: Option<PlacedFinding>,
 ) -> Result<(), AllocError>
-    ensures { OnOk result (Adds (AreWarned name.now reads.now) out.old.items out.new.items) }
+    ensures { OnOk result (out.new.items ≡ out.old.items ++ fault_line name.now fault) }
 {
-    match reads {
-        [] => Ok(()),
-        [early, others @ ..] => {
-            push_warning(out, alloc, name, text, *early)?;
-            push_warnings(out, alloc, name, text, others)?;
-            Ok(())
-        }
+    match fault {
+        Some(placed) => push_placed(out, name, placed),
+        None => Ok(()),
     }
 }
 
-/// The reads in delay slots of these blocks.
-fn early_among(alloc: Global, drafts: &[Draft]) -> Result<Vec<EarlyRead>, AllocError>
-    ensures { IfOk result (λ reads. reads.items ≡ early_among drafts.now) }
+/// The lines of what is found in the text of this name.
+#[tactic(auto, unfolding(crate::specs::Remarks::remark_lines))]
+fn lines_of(alloc: Global, name: &[u8], remarks: &Remarks) -> Result<Vec<u8>, AllocError>
+    ensures { IfOk result (λ lines. lines.items ≡ remark_lines name.now remarks.now) }
 {
-    let mut reads = Vec::new(alloc);
-    for draft in drafts {
-        reads.extend_from_slice(&early_reads(alloc, &draft.issues)?)?;
-    }
-    Ok(reads)
-}
-
-/// The blocks of a text that has code. Memory alone can run out then.
-fn cut_of_code(alloc: Global, text: &[u8]) -> Result<Cut, AllocError>
-    ensures { IfOk result (λ cut. cut_of cut ≡ code_cut text.now) }
-{
-    match read_code(alloc, text) {
-        Ok(code) => read_cut(alloc, &code),
-        Err(_) => Err(AllocError),
-    }
-}
-
-/// The reads in delay slots of a text of packets that is adopted, at most so many.
-fn warnings_of(alloc: Global, name: &[u8], text: &[u8], most: usize) -> Result<Vec<u8>, AllocError>
-    ensures { IfOk result (λ lines. WarnsText most name.now text.now lines.items) }
-{
-    let cut = cut_of_code(alloc, text)?;
-    let mut reads = early_among(alloc, &cut.drafts)?;
-    reads.truncate(most);
     let mut lines = Vec::new(alloc);
-    push_warnings(&mut lines, alloc, name, text, &reads)?;
+    push_found(&mut lines, name, remarks.fault)?;
+    push_reads(&mut lines, name, &remarks.reads)?;
     Ok(lines)
 }
 
@@ -232,39 +189,13 @@ pub fn lint_packets(
     text: &[u8],
     most: usize,
 ) -> Result<Linted, AllocError>
-    ensures { IfOk result (λ linted. IsLintedPackets most name.now text.now linted.lines.items linted.faulty) }
+    ensures linted { IfOk result (λ linted. IsLintedPackets most name.now text.now linted.lines.items linted.faulty) }
+    ensures remarks { IfOk result (λ linted. TellsRemarks most name.now text.now linted.lines.items) }
 {
-    let fault = match adopt(alloc, text, false) {
-        Ok(_) => {
-            return Ok(Linted {
-                lines: warnings_of(alloc, name, text, most)?,
-                faulty: false,
-            });
-        }
-        Err(fault) => fault,
-    };
-    let Some(finding) = of_adopt(fault) else {
-        return Err(AllocError);
-    };
-    Ok(Linted {
-        lines: line_of(alloc, name, text, finding)?,
-        faulty: true,
-    })
-}
-
-/// A line for what is found, and none where nothing is.
-fn lines_of(
-    alloc: Global,
-    name: &[u8],
-    text: &[u8],
-    found: Option<Finding>,
-) -> Result<Vec<u8>, AllocError>
-    ensures { IfOk result (λ lines. TellsFound name.now text.now found lines.items) }
-{
-    match found {
-        Some(finding) => line_of(alloc, name, text, finding),
-        None => Ok(Vec::new(alloc)),
-    }
+    let remarks = packets_remarks(alloc, text, most)?;
+    let lines = lines_of(alloc, name, &remarks)?;
+    let faulty = remarks.faulty;
+    Ok(Linted { lines, faulty })
 }
 
 /// The first fault of a listing, which is what `sim` refuses it for. Of a block it is told by the line that keeps the text from being
@@ -274,23 +205,11 @@ fn lines_of(
 ///
 /// `AllocError` where memory ran out.
 pub fn lint_listing(alloc: Global, name: &[u8], text: &[u8]) -> Result<Linted, AllocError>
-    ensures { IfOk result (λ linted. IsLintedListing name.now text.now linted.lines.items linted.faulty) }
+    ensures linted { IfOk result (λ linted. IsLintedListing name.now text.now linted.lines.items linted.faulty) }
+    ensures remarks { IfOk result (λ linted. TellsListingRemarks name.now text.now linted.lines.items) }
 {
-    let fault = match read_listing(alloc, text) {
-        Ok(_) => {
-            return Ok(Linted {
-                lines: Vec::new(alloc),
-                faulty: false,
-            });
-        }
-        Err(fault) => fault,
-    };
-    if let ListFault::Memory = fault {
-        return Err(AllocError);
-    }
-    let found = of_listing(alloc, text, fault)?;
-    Ok(Linted {
-        lines: lines_of(alloc, name, text, found)?,
-        faulty: true,
-    })
+    let remarks = listing_remarks(alloc, text)?;
+    let lines = lines_of(alloc, name, &remarks)?;
+    let faulty = remarks.faulty;
+    Ok(Linted { lines, faulty })
 }

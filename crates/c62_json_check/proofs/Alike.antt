@@ -1,13 +1,10 @@
 -- The lines of a check and its document tell the same.
-use Rattle.std.proofs.Common.{◌≡◌, ℕ, Bool, List, refl}
-use Rattle.c62_read.specs.Block.{Serial, labels_in}
+use Rattle.std.proofs.Common.{List, refl}
+use Rattle.c62_read.specs.Block.{Serial}
 use Rattle.c62_packet.specs.Packed.{Packed}
-use Rattle.c62_packet.specs.Packets.{labels_of}
-use Rattle.std.specs.Prelude.{slice_get}
-use Rattle.c62_check.specs.Checked.{IsChecked}
 use Rattle.c62_check.specs.Checked.IsChecked.{OtherBlocks, SameBlocks}
 use Rattle.c62_check.proofs.OneText.{one_text}
-use Rattle.c62_json_check.specs.Checked.{IsCheckDocument, OneOther, OneVerdicts, TellsTheSame}
+use Rattle.c62_json_check.specs.Checked.{OneOther, OneVerdicts, TellsTheSame}
 use Rattle.c62_json_check.specs.Checked.IsCheckDocument.{OtherBlocks as OtherDocument, SameBlocks as SameDocument}
 
 pub tells_the_same : (program : List Serial) (packets : List Packed) → TellsTheSame program packets

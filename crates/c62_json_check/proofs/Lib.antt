@@ -1,3 +1,4 @@
 pub mod Alike
+pub mod Documents
 pub mod Others
 pub mod Verdicts

@@ -1,5 +1,5 @@
 -- The verdicts on one block after the other.
-use Rattle.std.proofs.Common.{arith, ◌≡◌, ℕ, zero, suc, ◌<◌, ◌+◌, List, [], ◌∷◌, ◌++◌, length, Some}
+use Rattle.std.proofs.Common.{arith, ◌≡◌, ℕ, zero, suc, List, [], ◌∷◌, ◌++◌, length, Some}
 use Rattle.std.proofs.Common.{refl, sym, ap, subst, ◌∙◌, inl, inr, ◌⊎◌}
 use Rattle.std.specs.Prelude.{slice_get}
 use Rattle.std.proofs.lemmas.List.{length-append}
@@ -56,3 +56,12 @@ verdicts_push done packets verdicts block packed verdict are at_packed says =
             ])
       ];
     }
+
+pub verdict_next : (done : List Serial) (packets : List Packed) (verdicts new : List Verdict) (number : ℕ)
+    (block : Serial) (packed : Packed) (verdict : Verdict) → AreVerdicts done packets verdicts
+    → number ≡ length done → slice_get packets number ≡ Some packed → IsVerdict block packed verdict
+    → new ≡ verdicts ++ verdict ∷ [] → AreVerdicts (done ++ block ∷ []) packets new
+verdict_next done packets verdicts new number block packed verdict are place at says pushed = subst
+    (λ (all : List Verdict). AreVerdicts (done ++ block ∷ []) packets all) (sym pushed)
+    (verdicts_push done packets verdicts block packed verdict are
+    (subst (λ (n : ℕ). slice_get packets n ≡ Some packed) place at) says)

@@ -2,13 +2,15 @@
 
 ghost use Rattle.std.specs.Prelude.{◌≡◌, [], ◌∷◌, codes};
 ghost use Rattle.std.specs.List.{flat_map};
-ghost use Rattle.json.specs.Token.{key};
-ghost use Rattle.c62_json.specs.Document.{Adds, array, count, object};
+ghost use Rattle.json.specs.Token.{key, string};
+ghost use Rattle.c62_json.specs.Document.{Adds, array, count, object, text};
+ghost use Rattle.c62_reason.specs.Words.{reason_words};
 ghost use Rattle.c62_json_check.specs.Blocks.{early_ends, early_lines, early_members, line_value, signed, told, verdict_object};
 
 use crate::reason::reason_words;
 use c62_check::{Early, Verdict};
 use c62_json::{push_count, push_missing, push_signed, push_text};
+use c62_reason::Reason;
 use json::Writer;
 use std::alloc::{AllocError, Global};
 
@@ -37,6 +39,15 @@ fn push_early_lines(out: &mut Writer, early: &Early) -> Result<(), AllocError>
     push_number(out, "after", u64::from(early.after))
 }
 
+/// Why it must come so late, in words.
+fn push_because(alloc: Global, out: &mut Writer, reason: Reason) -> Result<(), AllocError>
+    ensures { Adds result out.old out.new (key (codes "because") ∷ text (reason_words reason) ∷ []) }
+{
+    let words = reason_words(alloc, reason)?;
+    out.key("because")?;
+    push_text(alloc, out, &words)
+}
+
 /// How many cycles must lie between them, and do, and why.
 #[tactic(auto, unfolding(crate::specs::Blocks::early_ends))]
 fn push_early_ends(alloc: Global, out: &mut Writer, early: &Early) -> Result<(), AllocError>
@@ -44,8 +55,7 @@ fn push_early_ends(alloc: Global, out: &mut Writer, early: &Early) -> Result<(),
 {
     push_cycles(out, "needs", early.needs)?;
     push_cycles(out, "has", early.has)?;
-    out.key("because")?;
-    push_text(alloc, out, &reason_words(alloc, early.reason)?)
+    push_because(alloc, out, early.reason)
 }
 
 /// An instruction that comes too early.
@@ -69,15 +79,24 @@ fn push_all_early(alloc: Global, out: &mut Writer, early: &[Early]) -> Result<()
     Ok(())
 }
 
-/// The line of which a verdict speaks, where it speaks of one.
+/// The line of which a verdict speaks, where it speaks of one, as a member.
 #[tactic(auto, unfolding(crate::specs::Blocks::line_value))]
 fn push_line(out: &mut Writer, line: Option<u32>) -> Result<(), AllocError>
-    ensures { Adds result out.old out.new (line_value line ∷ []) }
+    ensures { Adds result out.old out.new (key (codes "line") ∷ line_value line ∷ []) }
 {
+    out.key("line")?;
     match line {
         Some(line) => push_count(out, u64::from(line)),
         None => push_missing(out),
     }
+}
+
+/// The word of a verdict, as a member.
+fn push_word(out: &mut Writer, word: &str) -> Result<(), AllocError>
+    ensures { Adds result out.old out.new (key (codes "verdict") ∷ string word.now ∷ []) }
+{
+    out.key("verdict")?;
+    out.string(word)
 }
 
 /// What comes too early of a block, as a member.
@@ -108,9 +127,7 @@ pub fn push_told(
 {
     out.begin_object()?;
     push_number(out, "block", block)?;
-    out.key("verdict")?;
-    out.string(word)?;
-    out.key("line")?;
+    push_word(out, word)?;
     push_line(out, line)?;
     push_early_member(alloc, out, early)?;
     out.end_object()

@@ -98,6 +98,21 @@ fn push_other_members(
     push_blocks(alloc, out, &[])
 }
 
+/// The text of the document where a block differs in its label, or only one of the two has it.
+fn other_text(
+    alloc: Global,
+    number: usize,
+    listed: Option<&PacketBlock>,
+    block: Option<&Block>,
+) -> Result<Vec<u8>, AllocError>
+    ensures { IfOk result (λ text. text.items ≡ document (codes "check") (other_members number
+        (option_map (λ one. one.label) (option_copied listed.entry)) (option_map (λ other. other.label) (option_copied block.entry)))) }
+{
+    let mut out = begin(alloc, "check")?;
+    push_other_members(alloc, &mut out, number, listed, block)?;
+    end(out)
+}
+
 /// The document where this block is the first that differs in its label, or that only one of the two has.
 fn other_document(
     alloc: Global,
@@ -108,18 +123,8 @@ fn other_document(
     requires { IsFirstOther blocks.now packets.now number }
     ensures { IfOk result (λ checked. IsCheckDocument blocks.now packets.now checked.text.items checked.same) }
 {
-    let mut out = begin(alloc, "check")?;
-    push_other_members(
-        alloc,
-        &mut out,
-        number,
-        packets.get(number),
-        blocks.get(number),
-    )?;
-    Ok(CheckedDocument {
-        text: end(out)?,
-        same: false,
-    })
+    let text = other_text(alloc, number, packets.get(number), blocks.get(number))?;
+    Ok(CheckedDocument { text, same: false })
 }
 
 fn plan_of(alloc: Global, block: Block) -> Result<Plan, AllocError>
@@ -157,17 +162,13 @@ fn verdicts_of(
     Ok(verdicts)
 }
 
-/// The document of these verdicts.
-fn verdicts_document(alloc: Global, verdicts: &[Verdict]) -> Result<CheckedDocument, AllocError>
-    ensures text { IfOk result (λ checked. checked.text.items ≡ document (codes "check") (same_members verdicts.now)) }
-    ensures same { IfOk result (λ checked. checked.same ≡ list_all is_same verdicts.now) }
+/// The text of the document of these verdicts.
+fn verdicts_text(alloc: Global, verdicts: &[Verdict]) -> Result<Vec<u8>, AllocError>
+    ensures { IfOk result (λ text. text.items ≡ document (codes "check") (same_members verdicts.now)) }
 {
     let mut out = begin(alloc, "check")?;
     push_same_members(alloc, &mut out, verdicts)?;
-    Ok(CheckedDocument {
-        text: end(out)?,
-        same: are_same(verdicts),
-    })
+    end(out)
 }
 
 /// The document where the blocks and their labels are the same.
@@ -179,7 +180,10 @@ fn blocks_document(
     requires { labels_of packets.now ≡ labels_in program }
     ensures { IfOk result (λ checked. IsCheckDocument program packets.now checked.text.items checked.same) }
 {
-    verdicts_document(alloc, &verdicts_of(alloc, program, packets)?)
+    let verdicts = verdicts_of(alloc, program, packets)?;
+    let text = verdicts_text(alloc, &verdicts)?;
+    let same = are_same(&verdicts);
+    Ok(CheckedDocument { text, same })
 }
 
 /// The document of a check of packets against a program: what is found of each block, or the first block that differs in its

@@ -6,7 +6,6 @@ ghost use Rattle.c62_packet.specs.Packed.{Packed};
 ghost use Rattle.c62_json_check.specs.Checked.{TellsTheSame};
 
 /// A check's lines and its document tell the same facts, and say alike whether all is the same.
-#[tactic(auto, using(crate::proofs::Alike::tells_the_same))]
 pub fn documents_tell_what_lines_tell()
     ensures { (program : List Serial) (packets : List Packed) → TellsTheSame program packets }
 {}

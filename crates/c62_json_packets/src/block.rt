@@ -1,13 +1,12 @@
 //! Blocks of packets.
 
-ghost use Rattle.std.specs.Prelude.{◌∷◌, codes};
+ghost use Rattle.std.specs.Prelude.{◌≡◌};
 ghost use Rattle.std.specs.Option.{option_copied};
-ghost use Rattle.json.specs.Token.{key};
 ghost use Rattle.c62_json.specs.Document.{Adds};
-ghost use Rattle.c62_json_packets.specs.Packets.{name_among, label_value, heading, told_block, blocks_from, blocks_member};
+ghost use Rattle.c62_json_packets.specs.Packets.{name_among, label_member, heading, told_block, blocks_from, blocks_member};
 
 use crate::labels::labels_of;
-use crate::member::{begin_array, push_number, push_string};
+use crate::member::{begin_array, push_null, push_number, push_string};
 use crate::packet::push_packets;
 use c62_listing::label_text;
 use c62_packet::{PacketBlock, Packets};
@@ -17,14 +16,11 @@ use std::alloc::{AllocError, Global};
 
 /// Writes the member of the label of a block, or that it has none.
 fn push_label(out: &mut Writer, label: Option<&Label>) -> Result<(), AllocError>
-    ensures { Adds result out.old out.new (key (codes "label") ∷ label_value (option_copied label.entry)) }
+    ensures { Adds result out.old out.new (label_member (option_copied label.entry)) }
 {
     match label {
         Some(label) => push_string(out, "label", label_text(label)),
-        None => {
-            out.key("label")?;
-            out.null()
-        }
+        None => push_null(out, "label"),
     }
 }
 
@@ -81,7 +77,7 @@ fn push_each(
 /// # Errors
 ///
 /// `AllocError` where memory ran out.
-#[tactic(auto, unfolding(crate::specs::Packets::blocks_member))]
+#[tactic(auto, unfolding(crate::specs::Packets::blocks_member, crate::specs::Member::array_member))]
 pub fn push_blocks(alloc: Global, out: &mut Writer, packets: &Packets) -> Result<(), AllocError>
     ensures { Adds result out.old out.new (blocks_member packets.now) }
 {

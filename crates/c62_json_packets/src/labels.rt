@@ -14,7 +14,7 @@ use c62_read::Label;
 use std::alloc::{AllocError, Global};
 
 /// A label again, where there is one.
-fn copied(label: Option<&Label>) -> Option<Label>
+pub fn copied(label: Option<&Label>) -> Option<Label>
     ensures { result ≡ option_copied label.entry }
 {
     match label {

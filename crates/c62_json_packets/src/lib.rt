@@ -12,6 +12,6 @@ mod register;
 
 pub use block::{push_blocks, push_heading};
 pub use document::packets_document;
-pub use labels::labels_of;
+pub use labels::{copied, labels_of};
 pub use packet::push_packets;
-pub use register::push_register;
+pub use register::{push_register, push_register_member};

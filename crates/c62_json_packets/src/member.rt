@@ -1,8 +1,9 @@
 //! Members with their values.
 
 ghost use Rattle.std.specs.Prelude.{[], ◌∷◌};
-ghost use Rattle.json.specs.Token.{key, string, begin_array, begin_object};
-ghost use Rattle.c62_json.specs.Document.{Adds, count};
+ghost use Rattle.json.specs.Token.{key, begin_array, begin_object};
+ghost use Rattle.c62_json.specs.Document.{Adds};
+ghost use Rattle.c62_json_packets.specs.Member.{number_member, signed_member, text_member, null_member};
 
 use c62_json::push_count;
 use json::Writer;
@@ -13,11 +14,25 @@ use std::alloc::AllocError;
 /// # Errors
 ///
 /// `AllocError` where memory ran out.
+#[tactic(auto, unfolding(crate::specs::Member::number_member))]
 pub fn push_number(out: &mut Writer, name: &str, number: u64) -> Result<(), AllocError>
-    ensures { Adds result out.old out.new (key name.now ∷ count number ∷ []) }
+    ensures { Adds result out.old out.new (number_member name.now number) }
 {
     out.key(name)?;
     push_count(out, number)
+}
+
+/// Writes a member whose value is a number with its sign.
+///
+/// # Errors
+///
+/// `AllocError` where memory ran out.
+#[tactic(auto, unfolding(crate::specs::Member::signed_member))]
+pub fn push_signed(out: &mut Writer, name: &str, value: i64) -> Result<(), AllocError>
+    ensures { Adds result out.old out.new (signed_member name.now value) }
+{
+    out.key(name)?;
+    c62_json::push_signed(out, value)
 }
 
 /// Writes a member whose value is a text.
@@ -25,11 +40,25 @@ pub fn push_number(out: &mut Writer, name: &str, number: u64) -> Result<(), Allo
 /// # Errors
 ///
 /// `AllocError` where memory ran out.
+#[tactic(auto, unfolding(crate::specs::Member::text_member))]
 pub fn push_string(out: &mut Writer, name: &str, text: &str) -> Result<(), AllocError>
-    ensures { Adds result out.old out.new (key name.now ∷ string text.now ∷ []) }
+    ensures { Adds result out.old out.new (text_member name.now text.now) }
 {
     out.key(name)?;
     out.string(text)
+}
+
+/// Writes a member of which there is nothing to tell.
+///
+/// # Errors
+///
+/// `AllocError` where memory ran out.
+#[tactic(auto, unfolding(crate::specs::Member::null_member))]
+pub fn push_null(out: &mut Writer, name: &str) -> Result<(), AllocError>
+    ensures { Adds result out.old out.new (null_member name.now) }
+{
+    out.key(name)?;
+    out.null()
 }
 
 /// Begins a member whose value is an array.

@@ -1,9 +1,9 @@
 //! The packets of a block.
 
-ghost use Rattle.std.specs.Prelude.{◌≡◌, ◌∷◌, IfOk, codes};
+ghost use Rattle.std.specs.Prelude.{◌≡◌, IfOk, codes};
 ghost use Rattle.std.specs.List.{flat_map, range_with_len};
-ghost use Rattle.json.specs.Token.{key};
-ghost use Rattle.c62_json.specs.Document.{Adds, array};
+ghost use Rattle.c62_json.specs.Document.{Adds};
+ghost use Rattle.c62_json_packets.specs.Member.{array_member};
 ghost use Rattle.c62_json_packets.specs.Packets.{name_among, instruction, issued_in, packet_of, packet, packets};
 
 use crate::instruction::push_instruction;
@@ -42,13 +42,14 @@ fn push_each(
 }
 
 /// Writes the member of the instructions of a packet.
+#[tactic(auto, unfolding(crate::specs::Member::array_member))]
 fn push_instructions(
     alloc: Global,
     out: &mut Writer,
     labels: &[Option<Label>],
     issued: &[Placed],
 ) -> Result<(), AllocError>
-    ensures { Adds result out.old out.new (key (codes "instructions") ∷ array (flat_map (instruction (name_among labels.now)) issued.now)) }
+    ensures { Adds result out.old out.new (array_member (codes "instructions") (flat_map (instruction (name_among labels.now)) issued.now)) }
 {
     begin_array(out, "instructions")?;
     push_each(alloc, out, labels, issued)?;
@@ -111,7 +112,7 @@ fn push_all(
 /// # Errors
 ///
 /// `AllocError` where memory ran out.
-#[tactic(auto, unfolding(crate::specs::Packets::packets))]
+#[tactic(auto, unfolding(crate::specs::Packets::packets, crate::specs::Member::array_member))]
 pub fn push_packets(
     alloc: Global,
     out: &mut Writer,

@@ -1,7 +1,6 @@
 -- Hexadecimal digits stand in a document as they are.
-use Rattle.std.proofs.Common.{◌≡◌, ℕ, zero, suc, ◌*◌, ◌/◌, ◌%◌, ◌<◌, ◌==◌, List, [], ◌∷◌, ◌++◌, arith, if◌then◌else◌}
+use Rattle.std.proofs.Common.{◌≡◌, ℕ, zero, suc, ◌/◌, ◌%◌, ◌<◌, ◌==◌, List, [], ◌∷◌, arith, if◌then◌else◌}
 use Rattle.std.specs.Prelude.{IsAscii}
-use Rattle.std.specs.List.{flat_map}
 use Rattle.std.proofs.lemmas.Bool.Decides.{nat_tests}
 use Rattle.std.proofs.lemmas.Str.{IsAscii-append}
 use Rattle.std.proofs.lemmas.Str.Ascii.{IsAscii-nil}
@@ -23,9 +22,11 @@ hex_ascii (suc more) value =
     (one_digit (value % 16) (omega arith))
 
 pub address_stands : (base place : ℕ) → key_of (address_text base place) ≡ key (address_text base place)
-address_stands base place = key_stands (address_text base place) (hex_ascii (if base == 0 then 4 else 8) (sum base place))
+address_stands base place = key_stands (address_text base place)
+    (hex_ascii (if base == 0 then 4 else 8) (sum base place))
 
-digits_ascii : (bytes : List ℕ) → IsAscii (digits bytes)
+pub digits_ascii : (bytes : List ℕ) → IsAscii (digits bytes)
+unfolding digits
 digits_ascii [] = IsAscii-nil
 digits_ascii (byte ∷ bytes) = IsAscii-append (hex 2 byte) (digits bytes) (hex_ascii 2 byte) (digits_ascii bytes)
 

@@ -1,2 +1,9 @@
 pub mod Ascii
 pub mod OneMore
+pub mod Values
+pub mod Telling
+pub mod Finding
+pub mod Endings
+pub mod TellingRows
+pub mod TellingValues
+pub mod TellingFlights

@@ -1,9 +1,6 @@
 -- One more of a row.
-use Rattle.std.proofs.Common.{◌≡◌, ◌∙◌, ℕ, zero, suc, ◌+◌, ◌*◌, List, [], ◌++◌, refl, sym, ap, arith, append_assoc}
-use Rattle.std.proofs.Common.{add-one}
+use Rattle.std.proofs.Common.{◌≡◌, ℕ, ◌+◌, [], ◌++◌, refl}
 use Rattle.std.specs.List.{flat_map, range_with_len}
-use Rattle.std.proofs.lemmas.List.{append-nil}
-use Rattle.json.specs.Token.{Token}
 use Rattle.c62_op.specs.declared.register.Side.{Side}
 use Rattle.c62_serial.specs.State.{Machine}
 use Rattle.c62_report.proofs.ReportLemmas.{flat_map-more}

@@ -1,5 +1,5 @@
 -- How a run ended (docs/JSON.md, "The exit").
-use Rattle.std.specs.Prelude.{ℕ, List, [], ◌∷◌, ◌++◌, codes}
+use Rattle.std.specs.Prelude.{ℕ, List, [], ◌∷◌, codes}
 use Rattle.json.specs.Token.{Token, key, string}
 use Rattle.c62_op.specs.Name.{register_name}
 use Rattle.c62_serial.specs.declared.chain.End.{End}

@@ -20,8 +20,8 @@ register machine side number = key (file_letter side ++ decimal number) ∷ coun
 unfoldable pub file : Machine → Side → List Token
 file machine side = flat_map (register machine side) (range_with_len 0 16)
 
-abbrev pub registers : Machine → List Token
-registers machine = object (file machine A ++ file machine B)
+unfoldable pub registers : Machine → List Token
+registers machine = key (codes "registers") ∷ object (file machine A ++ file machine B)
 
 -- ---- memory
 
@@ -30,7 +30,7 @@ abbrev pub bytes_of_word : Machine → ℕ → List ℕ
 bytes_of_word machine k = bytes_from (byte_in machine) (4 * k) 4
 
 -- two hexadecimal digits a byte
-abbrev pub digits : List ℕ → List ℕ
+unfoldable pub digits : List ℕ → List ℕ
 digits bytes = flat_map (hex 2) bytes
 
 -- a word of memory that isn't 0, by its address, its lowest byte first: `"0008":"63000000"` is 0x63
@@ -43,15 +43,14 @@ word machine k =
 unfoldable pub words : Machine → ℕ → List Token
 words machine count = flat_map (word machine) (range_with_len 0 count)
 
-abbrev pub memory : Machine → List Token
-memory machine = object (words machine memory_words)
+unfoldable pub memory : Machine → List Token
+memory machine = key (codes "memory") ∷ object (words machine memory_words)
 
 -- ---- what a run leaves
 
 -- the lines that faulted, rising
-abbrev pub faults : Machine → List Token
-faults machine = array (map count machine.faults)
+unfoldable pub faults : Machine → List Token
+faults machine = key (codes "faults") ∷ array (map count machine.faults)
 
-unfoldable pub machine_members : Machine → List Token
-machine_members machine =
-    key (codes "registers") ∷ registers machine ++ key (codes "memory") ∷ memory machine ++ key (codes "faults") ∷ faults machine
+abbrev pub machine_members : Machine → List Token
+machine_members machine = registers machine ++ memory machine ++ faults machine

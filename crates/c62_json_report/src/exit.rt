@@ -1,11 +1,12 @@
 //! How a run ended (docs/JSON.md, "The exit").
 
-ghost use Rattle.std.specs.Prelude.{◌≡◌, [], ◌∷◌, ◌++◌, codes};
+ghost use Rattle.std.specs.Prelude.{[], ◌∷◌, codes};
 ghost use Rattle.json.specs.Token.{begin_object, key, string};
 ghost use Rattle.c62_op.specs.Name.{register_name};
-ghost use Rattle.c62_json.specs.Document.{Adds, count};
+ghost use Rattle.c62_json.specs.Document.{Adds};
 ghost use Rattle.c62_json_report.specs.Exit.{ended_by, exit, lines, stop};
 
+use crate::brackets::{close_array, close_object, open_array, open_object};
 use crate::words::register_name;
 use c62_flight::Stop;
 use c62_insn::Reg;
@@ -18,7 +19,7 @@ use std::alloc::{AllocError, Global};
 fn begin(out: &mut Writer, what: &str) -> Result<(), AllocError>
     ensures { Adds result out.old out.new (begin_object ∷ key (codes "by") ∷ string what.now ∷ []) }
 {
-    out.begin_object()?;
+    open_object(out)?;
     out.key("by")?;
     out.string(what)
 }
@@ -28,7 +29,7 @@ fn push_alone(out: &mut Writer, what: &str) -> Result<(), AllocError>
     ensures { Adds result out.old out.new (ended_by what.now []) }
 {
     begin(out, what)?;
-    out.end_object()
+    close_object(out)
 }
 
 /// How a chain of blocks ended.
@@ -43,7 +44,7 @@ pub(crate) fn push_exit(out: &mut Writer, end: End) -> Result<(), AllocError>
             begin(out, "register")?;
             push_name(out, "value")?;
             push_count(out, u64::from(value))?;
-            out.end_object()
+            close_object(out)
         }
     }
 }
@@ -54,10 +55,25 @@ fn push_lines(out: &mut Writer, first: u32, second: u32) -> Result<(), AllocErro
     ensures { Adds result out.old out.new (lines first second) }
 {
     push_name(out, "lines")?;
-    out.begin_array()?;
+    open_array(out)?;
     push_count(out, u64::from(first))?;
     push_count(out, u64::from(second))?;
-    out.end_array()
+    close_array(out)
+}
+
+/// The name of a register.
+fn push_register(alloc: Global, out: &mut Writer, reg: Reg) -> Result<(), AllocError>
+    ensures { Adds result out.old out.new (string (register_name reg) ∷ []) }
+{
+    out.string(register_name(alloc, reg)?.as_str())
+}
+
+/// The register whose writes clashed.
+fn push_clashing(alloc: Global, out: &mut Writer, reg: Reg) -> Result<(), AllocError>
+    ensures { Adds result out.old out.new (key (codes "register") ∷ string (register_name reg) ∷ []) }
+{
+    push_name(out, "register")?;
+    push_register(alloc, out, reg)
 }
 
 /// Writes of a register that landed in one cycle.
@@ -71,10 +87,10 @@ fn push_clash(
     ensures { Adds result out.old out.new (ended_by (codes "clash") (key (codes "register") ∷ string (register_name reg) ∷ lines first second)) }
 {
     begin(out, "clash")?;
-    push_name(out, "register")?;
-    out.string(register_name(alloc, reg)?.as_str())?;
+    push_clashing(alloc, out, reg)?;
     push_lines(out, first, second)?;
-    out.end_object()
+    close_object(out)?;
+    Ok(())
 }
 
 /// Branches of one packet that both ran.
@@ -83,7 +99,8 @@ fn push_branches(out: &mut Writer, first: u32, second: u32) -> Result<(), AllocE
 {
     begin(out, "branches")?;
     push_lines(out, first, second)?;
-    out.end_object()
+    close_object(out)?;
+    Ok(())
 }
 
 /// How a run in flight stopped.

@@ -1,13 +1,14 @@
 //! What the machine holds at the end of a run (docs/JSON.md, "The machine").
 
-ghost use Rattle.std.specs.Prelude.{◌≡◌, ◌==◌, ◌++◌, ◌+◌, ◌*◌, ◌<◌, ◌≤◌, ◌∷◌, [], if◌then◌else◌, IfOk, OnOk, codes, map};
+ghost use Rattle.std.specs.Prelude.{◌≡◌, ◌==◌, ◌++◌, ◌+◌, ◌*◌, ◌<◌, ◌≤◌, ◌∷◌, [], if◌then◌else◌, OnOk, map};
 ghost use Rattle.json.specs.Token.{key, string};
 ghost use Rattle.c62_serial.specs.State.{byte_in};
 ghost use Rattle.c62_serial.specs.Memory.{bytes_from};
 ghost use Rattle.c62_report.specs.Report.{address_text};
-ghost use Rattle.c62_json.specs.Document.{Adds, array, count};
-ghost use Rattle.c62_json_report.specs.Machine.{bytes_of_word, digits, faults, file, machine_members, memory, register, registers, word, words};
+ghost use Rattle.c62_json.specs.Document.{Adds, count};
+ghost use Rattle.c62_json_report.specs.Machine.{digits, faults, file, machine_members, memory, register, registers, word, words};
 
+use crate::brackets::{close_array, close_object, open_array, open_object};
 use crate::words::{push_hex, register_name};
 use c62_insn::{Reg, Side};
 use c62_json::{push_count, push_key, push_name, push_text};
@@ -19,12 +20,7 @@ use std::alloc::{AllocError, Global};
 const MEMORY_WORDS: u32 = MEMORY_BYTES as u32 / 4;
 
 /// A register with its value.
-fn push_register(
-    alloc: Global,
-    out: &mut Writer,
-    state: &State,
-    reg: Reg,
-) -> Result<(), AllocError>
+fn push_register(alloc: Global, out: &mut Writer, state: &State, reg: Reg) -> Result<(), AllocError>
     ensures { Adds result out.old out.new (register state.now.machine reg.side reg.number) }
 {
     push_name(out, register_name(alloc, reg)?.as_str())?;
@@ -41,14 +37,17 @@ fn push_file(alloc: Global, out: &mut Writer, state: &State, side: Side) -> Resu
     Ok(())
 }
 
-/// All registers.
+/// The registers.
+#[tactic(auto, unfolding(crate::specs::Machine::registers))]
 fn push_registers(alloc: Global, out: &mut Writer, state: &State) -> Result<(), AllocError>
     ensures { Adds result out.old out.new (registers state.now.machine) }
 {
-    out.begin_object()?;
+    push_name(out, "registers")?;
+    open_object(out)?;
     push_file(alloc, out, state, Side::A)?;
     push_file(alloc, out, state, Side::B)?;
-    out.end_object()
+    close_object(out)?;
+    Ok(())
 }
 
 /// How many digits the addresses of memory have that begins there.
@@ -60,12 +59,7 @@ fn address_digits(base: u32) -> u8
 
 /// The address of a place in memory that begins at a base, as the name of a member.
 #[tactic(auto, using(crate::proofs::Ascii::address_stands))]
-fn push_address(
-    alloc: Global,
-    out: &mut Writer,
-    base: u32,
-    place: u32,
-) -> Result<(), AllocError>
+fn push_address(alloc: Global, out: &mut Writer, base: u32, place: u32) -> Result<(), AllocError>
     ensures { Adds result out.old out.new (key (address_text base place) ∷ []) }
 {
     let mut name = Vec::new(alloc);
@@ -74,6 +68,7 @@ fn push_address(
 }
 
 /// Adds the digits of four bytes of memory from a place on.
+#[tactic(auto, unfolding(crate::specs::Machine::digits))]
 fn push_digits(out: &mut Vec<u8>, state: &State, place: u16) -> Result<(), AllocError>
     requires { place + 3 < 65536 }
     ensures { OnOk result (out.new.items ≡ out.old.items ++ digits (bytes_from (byte_in state.now.machine) place 4)) }
@@ -86,12 +81,7 @@ fn push_digits(out: &mut Vec<u8>, state: &State, place: u16) -> Result<(), Alloc
 
 /// Four bytes of memory from a place on, as a text of their digits.
 #[tactic(auto, using(crate::proofs::Ascii::digits_stand))]
-fn push_bytes(
-    alloc: Global,
-    out: &mut Writer,
-    state: &State,
-    place: u16,
-) -> Result<(), AllocError>
+fn push_bytes(alloc: Global, out: &mut Writer, state: &State, place: u16) -> Result<(), AllocError>
     requires { place + 3 < 65536 }
     ensures { Adds result out.old out.new (string (digits (bytes_from (byte_in state.now.machine) place 4)) ∷ []) }
 {
@@ -128,13 +118,15 @@ fn push_words(alloc: Global, out: &mut Writer, state: &State, count: u32) -> Res
     Ok(())
 }
 
-/// Memory.
+/// The words of memory that aren't 0.
+#[tactic(auto, unfolding(crate::specs::Machine::memory))]
 fn push_memory(alloc: Global, out: &mut Writer, state: &State) -> Result<(), AllocError>
     ensures { Adds result out.old out.new (memory state.now.machine) }
 {
-    out.begin_object()?;
+    push_name(out, "memory")?;
+    open_object(out)?;
     push_words(alloc, out, state, MEMORY_WORDS)?;
-    out.end_object()
+    close_object(out)
 }
 
 /// Numbers of lines.
@@ -148,27 +140,21 @@ fn push_numbers(out: &mut Writer, numbers: &[u32]) -> Result<(), AllocError>
 }
 
 /// The lines that faulted.
+#[tactic(auto, unfolding(crate::specs::Machine::faults))]
 fn push_faults(out: &mut Writer, state: &State) -> Result<(), AllocError>
     ensures { Adds result out.old out.new (faults state.now.machine) }
 {
-    out.begin_array()?;
+    push_name(out, "faults")?;
+    open_array(out)?;
     push_numbers(out, state.faults())?;
-    out.end_array()
+    close_array(out)
 }
 
 /// The members that tell what the machine holds.
-#[tactic(auto, unfolding(crate::specs::Machine::machine_members))]
-pub(crate) fn push_machine(
-    alloc: Global,
-    out: &mut Writer,
-    state: &State,
-) -> Result<(), AllocError>
+pub(crate) fn push_machine(alloc: Global, out: &mut Writer, state: &State) -> Result<(), AllocError>
     ensures { Adds result out.old out.new (machine_members state.now.machine) }
 {
-    push_name(out, "registers")?;
     push_registers(alloc, out, state)?;
-    push_name(out, "memory")?;
     push_memory(alloc, out, state)?;
-    push_name(out, "faults")?;
     push_faults(out, state)
 }

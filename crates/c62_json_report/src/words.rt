@@ -1,6 +1,6 @@
 //! Names of registers and hexadecimal digits.
 
-ghost use Rattle.std.specs.Prelude.{◌≡◌, ◌++◌, [], ◌∷◌, ◌<◌, OnOk, IfOk, string_bytes};
+ghost use Rattle.std.specs.Prelude.{◌≡◌, ◌++◌, ◌<◌, OnOk, IfOk, string_bytes};
 ghost use Rattle.c62_op.specs.Name.{file_letter, register_name};
 ghost use Rattle.c62_report.specs.Report.{hex_digit, hex};
 
@@ -42,6 +42,7 @@ fn hex_digit(digit: u8) -> u8
 }
 
 /// Adds so many low hexadecimal digits of a value.
+#[tactic(auto, unfolding(c62_report::specs::Report::hex))]
 pub(crate) fn push_hex(out: &mut Vec<u8>, digits: u8, value: u32) -> Result<(), AllocError>
     ensures { OnOk result (out.new.items ≡ out.old.items ++ hex digits value) }
 {

@@ -7,7 +7,9 @@ use Rattle.c62_answer.specs.Message.{told_of}
 use Rattle.c62_answer.specs.Run.{IsRun, Streams, streams}
 use Rattle.c62_answer.proofs.WholeRuns.{told_tells}
 use Rattle.clap.specs.declared.error.Error.{Error}
-use Rattle.c62_command.specs.CommandLine.{Ask, IsRefusal, asked}
+use Rattle.c62_command.specs.CommandLine.{Ask, Document, IsRefusal, asked, rendered}
+use Rattle.c62_command.specs.declared.command.Rendering.{Rendering}
+use Rattle.c62_command.specs.declared.command.Rendering.TheVariants.{Text as InText, Json as InJson}
 use Rattle.c62_command.specs.declared.command.CommandError.TheVariants as refused
 use Rattle.c62_command.specs.declared.promise.BadPromise.{BadPromise}
 use Rattle.c62_teach.specs.Setting.{setting_taught}
@@ -18,8 +20,8 @@ use Rattle.c62_teach.specs.Words.{is_explained, is_lint, linting_of, plain_words
 use Rattle.c62_teach.specs.Linted.{IsLinted}
 use Rattle.c62_program.specs.Program.{IsGiven, IsRefusedFor, Lint, Lints, OnBytes, OnNothing, Plain, Refused}
 use Rattle.c62_program.specs.Program.{WithMore, is_told, RunsFrom, RunsLint, RunsTold, RunsWords}
-use Rattle.c62_program.specs.Teaching.{AreTold, IsLintRun, RunsMore, behind_text, behind_words, listing_name}
-use Rattle.c62_program.specs.Teaching.{status_with, text_name}
+use Rattle.c62_program.specs.Teaching.{AreTold, IsLintRun, RunsMore, TeachesWanted, behind_text, behind_words}
+use Rattle.c62_program.specs.Teaching.{listing_name, status_with, text_name}
 use Rattle.c62_program.specs.declared.page.TheConstants.{LINT}
 
 -- ---- more is told
@@ -73,6 +75,24 @@ refused_words wanted words error is = record
     { error = refused.Words error; known = λ same. cc; refused = is; taught = no_more wanted [] refl }
 
 -- ---- words of which more is told
+
+taught_so : (wanted : Bool) (ask : Ask) (name listing text more : List ℕ) → TeachesWanted wanted ask name listing text more
+    → TeachesWanted wanted (Document ask) name listing text more
+taught_so true ask name listing text more is = is
+taught_so false ask name listing text more is = is
+
+-- the same is told of a text, whatever its answer is told in
+pub told_so : (rendering : Rendering) (wanted : Bool) (ask : Ask) (name listing text refused apart faulted : List ℕ)
+    (meets : Bool) → AreTold wanted ask name listing text refused apart faulted meets
+    → AreTold wanted (rendered rendering ask) name listing text refused apart faulted meets
+told_so InText wanted ask name listing text refused apart faulted meets are = are
+told_so InJson wanted ask name listing text refused apart faulted meets are = record {
+  explains = taught_so wanted ask name listing text refused are.explains;
+  watches = are.watches;
+  faults = are.faults;
+  which = are.which;
+  both = are.both;
+}
 
 pub nothing_told : (holds : Holding) (words plain : List Text) (source : From) (old new : Streams) (explained : Bool)
     (more : List ℕ) (status : ℕ)

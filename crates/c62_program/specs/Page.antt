@@ -4,7 +4,8 @@ use Rattle.std.specs.Str.{bytes_eq}
 use Rattle.clap.specs.Words.{Text}
 use Rattle.c62_program.specs.declared.page.Page.{Page as Told}
 use Rattle.c62_program.specs.declared.page.Page.TheVariants.{Version, Status, Lint, Explain}
-use Rattle.c62_program.specs.declared.page.TheConstants.{VERSION, TOOLCHAIN, STATUS, LINT, EXPLAIN}
+use Rattle.c62_json.specs.declared.version.TheConstants.{VERSION}
+use Rattle.c62_program.specs.declared.page.TheConstants.{TOOLCHAIN, STATUS, LINT, EXPLAIN}
 
 -- the page behind `help`
 abbrev pub help_page : Text → Option Told

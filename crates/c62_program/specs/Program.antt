@@ -7,7 +7,7 @@ use Rattle.clap.specs.Words.{Text}
 use Rattle.c62_answer.specs.Message.{Tells}
 use Rattle.c62_answer.specs.Run.{Streams, IsRun, streams}
 use Rattle.c62_answer.specs.declared.parting.TheConstants.{MOST_BYTES}
-use Rattle.c62_command.specs.CommandLine.{IsRefusal, ask_of, asked}
+use Rattle.c62_command.specs.CommandLine.{IsRefusal, ask_told, asked}
 use Rattle.c62_command.specs.declared.command.CommandError.{CommandError}
 use Rattle.c62_command.specs.declared.command.CommandError.TheVariants.{Memory, Setting}
 use Rattle.c62_dumping.specs.Counts.{counts_asked}
@@ -95,7 +95,7 @@ pub record IsRefusedFor (wanted : Bool) (words : List Text) (more : List ℕ) : 
 
 -- what words ask for, or why they ask for nothing
 abbrev pub IsAsked : (wanted : Bool) → List Text → Asked → Type 0
-IsAsked wanted words (Known request) = asked words ≡ Some (ask_of request)
+IsAsked wanted words (Known command) = asked words ≡ Some (ask_told command)
 IsAsked wanted words (Unknown more) = IsRefusedFor wanted words more.items
 
 -- more is told than by the run itself

@@ -28,7 +28,7 @@ fn counts_of(alloc: Global, words: &[&str]) -> Result<Option<Vec<usize>>, AllocE
     ensures { IfOk result (λ counts. AreCounts (map (λ word. word.now) words.now) (option_map (λ c. c.items) counts)) }
 {
     match command_of(alloc, words) {
-        Ok(request) => Ok(Some(counts_asked(alloc, &request)?)),
+        Ok(command) => Ok(Some(counts_asked(alloc, &command)?)),
         Err(CommandError::Memory) => Err(AllocError),
         Err(_) => Ok(None),
     }

@@ -5,11 +5,9 @@ ghost use Rattle.c62_answer.specs.Message.{told_of};
 ghost use Rattle.c62_program.specs.Page.{help_page, page_asked, page_text};
 
 use c62_answer::{Refused, write_pieces, write_whole};
+use c62_json::VERSION;
 use std::convert::AsStr;
 use std::io::Write;
-
-/// The version. It stands here alone: CHANGELOG.md begins with it, and the launcher reads it here.
-const VERSION: &str = "0.10.0";
 
 /// The toolchain that proves this version and builds it.
 const TOOLCHAIN: &str = "rattle-kit-13f";

@@ -4,7 +4,7 @@ ghost use Rattle.std.specs.Prelude.{◌≡◌, ℕ, List, [], Option, Some, IfOk
 ghost use Rattle.std.specs.Io.KnownBytes.{Keeps};
 ghost use Rattle.c62_answer.specs.Run.{streams};
 ghost use Rattle.c62_files.specs.Call.{text_source};
-ghost use Rattle.c62_command.specs.CommandLine.{ask_of};
+ghost use Rattle.c62_command.specs.CommandLine.{ask_of, ask_told};
 ghost use Rattle.c62_teach.specs.Setting.{setting_taught};
 ghost use Rattle.c62_program.specs.Program.{IsAsked, RunsLint, RunsTold};
 ghost use Rattle.c62_program.specs.Trouble.{IsTroubleWithSource};
@@ -15,7 +15,7 @@ use crate::program::given;
 use crate::trouble::Trouble;
 use crate::written::status_behind;
 use c62_answer::{run_tool, write_whole};
-use c62_command::{CommandError, Request, command_of};
+use c62_command::{Command, CommandError, Request, command_of};
 use c62_files::{Folder, Source};
 use c62_teach::{
     Linted, Names, Watched, apart_told, faults_told, is_explained, lint_text, linting_of,
@@ -96,7 +96,7 @@ pub fn run_lint<'a, H: AllocGlobal, F: Folder, R: Read, W: Write, E: Write>(
 /// What words ask for, or what explains why they ask for nothing.
 #[derive(Drop)]
 enum Asked {
-    Known(Request),
+    Known(Command),
     Unknown(Vec<u8>),
 }
 
@@ -122,7 +122,7 @@ fn asked_of(alloc: Global, wanted: bool, words: &[&str]) -> Result<Asked, AllocE
     ensures { IfOk result (IsAsked wanted (map (λ word. word.now) words.now)) }
 {
     match command_of(alloc, words) {
-        Ok(request) => Ok(Asked::Known(request)),
+        Ok(command) => Ok(Asked::Known(command)),
         Err(CommandError::Memory) => Err(AllocError),
         Err(CommandError::Setting(number)) => Ok(Asked::Unknown(setting_told(
             alloc, wanted, words, number,
@@ -213,8 +213,8 @@ fn refusal_told(
     }
 }
 
-/// What is told of a text, for what is asked of it.
-fn told_of(
+/// What is told of a text, for what a request asks of it.
+fn request_told(
     alloc: Global,
     explained: bool,
     request: &Request,
@@ -233,6 +233,21 @@ fn told_of(
         apart,
         faulted,
     })
+}
+
+/// What is told of a text, for what is asked of it.
+#[tactic(auto, using(crate::proofs::Taught::told_so))]
+fn told_of(
+    alloc: Global,
+    explained: bool,
+    command: &Command,
+    names: Names<'_>,
+    text: &[u8],
+) -> Result<Told, AllocError>
+    ensures { IfOk result (λ told. AreTold explained (ask_told command.now) names.entry.text.now names.entry.listing.now text.now
+        told.refused.items told.apart.lines.items told.faulted.items told.apart.meets) }
+{
+    request_told(alloc, explained, &command.request, names, text)
 }
 
 /// Runs a command on these bytes, and tells more of them behind it.
@@ -277,9 +292,9 @@ pub fn run_told<'a, H: AllocGlobal + Threads + Wait + Sync, F: Folder, R: Read, 
     let plain = plain_words(rt.alloc(), words)?;
     match asked_of(rt.alloc(), explained, &plain)? {
         Asked::Unknown(more) => Ok(run_nothing(rt, &plain, &more, input, output, errors)),
-        Asked::Known(request) => {
+        Asked::Known(command) => {
             let bytes = given(rt.alloc(), folder, source, input)?;
-            let told = told_of(rt.alloc(), explained, &request, names_of(source), &bytes)?;
+            let told = told_of(rt.alloc(), explained, &command, names_of(source), &bytes)?;
             let status = run_on(rt, &plain, &bytes, &told, output, errors);
             Ok(told.status(status))
         }

@@ -8,7 +8,7 @@ use Rattle.c62_apart.specs.Met.{FindsMeetings}
 use Rattle.c62_apart.specs.Sentence.{lines_of}
 use Rattle.c62_command.specs.declared.setting.Setting.{Setting}
 use Rattle.c62_command.specs.declared.command.Course.{Course}
-use Rattle.c62_command.specs.CommandLine.{Ask, SerialReport}
+use Rattle.c62_command.specs.CommandLine.{Ask, SerialReport, Document}
 use Rattle.c62_answer.specs.Texts.{IsNoProgram, SaysProgram}
 use Rattle.c62_answer.specs.Run.{IsOpening}
 
@@ -40,4 +40,5 @@ WatchesNamed settings course (reg ∷ regs) text lines meets = WatchesText setti
 -- of a serial run that names some this is told, and of all else nothing
 abbrev pub TellsApart : Ask → (text lines : List ℕ) → (meets : Bool) → Type 0
 TellsApart (SerialReport course settings apart) text lines meets = WatchesNamed settings course apart text lines meets
+TellsApart (Document ask) text lines meets = TellsApart ask text lines meets
 TellsApart ask text lines meets = IsUntold lines meets

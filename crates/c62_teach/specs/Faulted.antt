@@ -22,7 +22,7 @@ use Rattle.c62_command.specs.declared.command.Course.{Course}
 use Rattle.c62_command.specs.declared.command.Form.{Form}
 use Rattle.c62_command.specs.declared.command.Packing.{Packing}
 use Rattle.c62_command.specs.declared.flight.FlightCourse.{FlightCourse}
-use Rattle.c62_command.specs.CommandLine.{Ask, SerialReport, PacketReport, StandingReport, FlightReport, Reaching}
+use Rattle.c62_command.specs.CommandLine.{Ask, SerialReport, PacketReport, StandingReport, FlightReport, Reaching, Document}
 use Rattle.c62_answer.specs.declared.outcome.Outcome.{Outcome}
 use Rattle.c62_answer.specs.Texts.{IsNoProgram, IsUncoded, IsUnreached, SaysNoPackets, SaysPackets, SaysProgram}
 use Rattle.c62_answer.specs.Run.{IsFlown, IsOpening, IsPacketReport, IsRunReport, IsSerialReport}
@@ -99,6 +99,7 @@ TellsFaults (StandingReport form course settings) text more = TellsIf course.str
 TellsFaults (FlightReport course from settings) text more = TellsIf course.strict (TellsCode from settings course text more) more
 TellsFaults (Reaching name (FlightReport course from settings)) text more =
     TellsIf course.strict (TellsTaken name from settings course text more) more
+TellsFaults (Document ask) text more = TellsFaults ask text more
 TellsFaults ask text more = more ≡ []
 
 -- ---- the law

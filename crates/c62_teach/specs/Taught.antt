@@ -4,7 +4,7 @@ use Rattle.c62_line.specs.declared.fault.ReadFault.{ReadFault}
 use Rattle.c62_read.specs.Program.{Refusal, program_in}
 use Rattle.c62_lint.specs.Faults.{refusal_of}
 use Rattle.c62_explain.specs.Picture.{Explains}
-use Rattle.c62_command.specs.CommandLine.{Ask, Listing, Picture, SerialReport, PacketReport, LoopListing, LoopPicture, LoopReport}
+use Rattle.c62_command.specs.CommandLine.{Ask, Listing, Picture, SerialReport, PacketReport, LoopListing, LoopPicture, LoopReport, Document}
 
 -- this explains the fault that a serial text is refused for
 pub record ExplainsRefusal (name text : List ℕ) (refusal : Refusal) (more : List ℕ) : Type 0 where
@@ -24,4 +24,5 @@ Teaches (PacketReport packing blocks settings) name listing text more = TeachesS
 Teaches (LoopListing verbose packing trips apart) name listing text more = TeachesSerial name text more
 Teaches (LoopPicture packing trips apart) name listing text more = TeachesSerial name text more
 Teaches (LoopReport verbose packing trips apart course settings) name listing text more = TeachesSerial name text more
+Teaches (Document ask) name listing text more = Teaches ask name listing text more
 Teaches ask name listing text more = Unit {0}

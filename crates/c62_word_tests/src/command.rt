@@ -1,8 +1,8 @@
 //! What words ask for, as the README and docs/REPORT.md say.
 
 use c62_command::{
-    Adopting, BadPromise, CommandError, Dump, Flight, FlightStart, Form, Looping, Packing, Print,
-    Promises, Request, Setting, Showing, Size, Start, command_of,
+    Adopting, BadPromise, Command, CommandError, Dump, Flight, FlightStart, Form, Looping, Packing,
+    Print, Promises, Rendering, Request, Setting, Showing, Size, Start, command_of,
 };
 use c62_op::{Reg, Side};
 use std::alloc::Global;
@@ -10,7 +10,7 @@ use std::process::Abort;
 use std::test::Fail;
 
 /// Words for a listing or a picture, and what they ask for or why they are refused.
-const LISTINGS: [(&[&str], &str); 26] = [
+const LISTINGS: [(&[&str], &str); 28] = [
     (&[], "pack by turns, 0 ejections"),
     (&["pack"], "pack by workers, 0 ejections"),
     (&["pack", "--turns"], "pack by turns, 0 ejections"),
@@ -64,10 +64,15 @@ const LISTINGS: [(&[&str], &str); 26] = [
     (&["show", "--blocks", "2"], "words"),
     (&["pack", "--why"], "words"),
     (&["show", "A1=5"], "words"),
+    (
+        &["pack", "--turns", "--json"],
+        "pack by turns, 0 ejections, as JSON",
+    ),
+    (&["pack", "--json", "--json"], "words"),
 ];
 
 /// The same for a run, and for what is done with packets.
-const RUNS: [(&[&str], &str); 70] = [
+const RUNS: [(&[&str], &str); 72] = [
     (&["run"], "run by workers, 0 ejections; 1000 blocks"),
     (
         &[
@@ -206,10 +211,15 @@ const RUNS: [(&[&str], &str); 70] = [
     (&["sim", "--apart", "A4,B4"], "words"),
     (&["serial", "--blocks", "0"], "words"),
     (&["frob"], "words"),
+    (
+        &["serial", "--json", "A1=5"],
+        "serial; 1000 blocks, A1 = 5, as JSON",
+    ),
+    (&["exec", "--json", "A1=x"], "setting 1"),
 ];
 
 /// The same for a check.
-const CHECKS: [(&[&str], &str); 17] = [
+const CHECKS: [(&[&str], &str); 18] = [
     (&["check"], "check"),
     (&["check", "--packets"], "check packets"),
     (&["check", "--packets", "--packets"], "words"),
@@ -250,10 +260,11 @@ const CHECKS: [(&[&str], &str); 17] = [
         "words",
     ),
     (&["sim", "--loops"], "words"),
+    (&["check", "--json"], "check, as JSON"),
 ];
 
 /// Words for packets whose loops are pipelined.
-const PIPELINES: [(&[&str], &str); 16] = [
+const PIPELINES: [(&[&str], &str); 17] = [
     (
         &["pack", "--pipeline"],
         "pack loops by workers, 0 ejections",
@@ -314,6 +325,10 @@ const PIPELINES: [(&[&str], &str); 16] = [
     (&["show", "--verbose"], "words"),
     (&["run", "--pipeline", "--cycles", "0"], "words"),
     (&["serial", "--pipeline"], "words"),
+    (
+        &["pack", "--pipeline", "--json"],
+        "pack loops by workers, 0 ejections, as JSON",
+    ),
 ];
 
 fn packing_text(alloc: Global, packing: Packing) -> Result<String, Fail> {
@@ -502,9 +517,18 @@ fn request_text(alloc: Global, request: &Request) -> Result<String, Fail> {
     })
 }
 
-fn answer_text(alloc: Global, answer: &Result<Request, CommandError>) -> Result<String, Fail> {
+fn command_text(alloc: Global, command: &Command) -> Result<String, Fail> {
+    let mut text = request_text(alloc, &command.request)?;
+    text.push_str(match command.rendering {
+        Rendering::Text => "",
+        Rendering::Json => ", as JSON",
+    })?;
+    Ok(text)
+}
+
+fn answer_text(alloc: Global, answer: &Result<Command, CommandError>) -> Result<String, Fail> {
     match answer {
-        Ok(request) => request_text(alloc, request),
+        Ok(command) => command_text(alloc, command),
         Err(CommandError::Words(_)) => Ok(format!(in alloc; "words")?),
         Err(CommandError::Setting(number)) => Ok(format!(in alloc; "setting {number}")?),
         Err(CommandError::Promise(BadPromise::Trips(number))) => {

@@ -1,5 +1,5 @@
 use Rattle.std.proofs.Common.{◌≡◌, true, List, sym, subst, arith}
-use Rattle.c62_read.specs.Block.{Serial, targets_stand}
+use Rattle.c62_read.specs.Block.{Serial}
 use Rattle.c62_packet.specs.Packed.{Packed}
 use Rattle.c62_packet.specs.Packets.{is_closed}
 use Rattle.c62_answer.specs.Schedule.{AreScheduled}

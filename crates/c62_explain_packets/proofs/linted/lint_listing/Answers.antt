@@ -1,11 +1,5 @@
-use Rattle.std.proofs.Common.{refl}
-use Rattle.c62_explain_packets.specs.Linted.{Read, Unread}
+use Rattle.c62_explain_packets.proofs.RemarkLemmas.{lints_listing}
 use Rattle.c62_explain_packets.proofs.linted.lint_listing.Goals as goal
 
-pub returns-in-Ok : goal.returns-in-Ok
-returns-in-Ok c = Read refl c.in-Ok.field-0 c.in-Ok.ensures.read c.new.ensures.items
-
-pub returns : goal.returns
-returns c =
-    Unread refl c.in-Err.fault c.in_default.not-Memory c.in-Err.ensures.read c.in_ok-found.found c.in_ok-found.ensures
-    c.in_ok-lines_of.ensures
+pub returns-clause-linted : goal.returns-clause-linted
+returns-clause-linted c = lints_listing _ _ _ c.in_ok-remarks.remarks c.in_ok-remarks.ensures c.in_ok-lines.ensures

@@ -1,4 +1,4 @@
-use Rattle.c62_explain_packets.proofs.WarningLemmas.{writer_on}
+use Rattle.c62_explain_packets.proofs.RemarkLemmas.{writer_on}
 use Rattle.c62_explain_packets.proofs.linted.push_writer.Goals as goal
 
 pub returns : goal.returns

@@ -1,4 +1,4 @@
-use Rattle.std.proofs.Common.{◌≡◌, ◌++◌, ◌×◌, drop, map}
+use Rattle.std.proofs.Common.{◌≡◌, ◌++◌, drop, map}
 use Rattle.c62_json.specs.Document.{count}
 use Rattle.c62_json_report.proofs.machine.push_numbers.Given as goal
 

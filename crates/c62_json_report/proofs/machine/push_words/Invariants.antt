@@ -1,4 +1,4 @@
-use Rattle.std.proofs.Common.{◌≡◌, ◌++◌, ◌×◌}
+use Rattle.std.proofs.Common.{◌≡◌, ◌++◌}
 use Rattle.c62_json_report.specs.Machine.{words}
 use Rattle.c62_json_report.proofs.machine.push_words.Given as goal
 

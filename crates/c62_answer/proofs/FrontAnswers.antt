@@ -1,0 +1,196 @@
+-- What answers that which is read of an input, at most one byte past the limit, answers all of it.
+use Rattle.std.proofs.Common.{◌≡◌, ◌∙◌, ℕ, ◌+◌, true, false, List, take, None, arith, refl, subst, sym}
+use Rattle.c62_read.specs.Program.{most_bytes, program_in}
+use Rattle.c62_listing_reader.specs.Faults.{drafts_in as listed_in, most_bytes as most_listing_bytes}
+use Rattle.c62_adopt.specs.Answer.{code_read}
+use Rattle.c62_adopt.proofs.CodeLemmas.{adopted_same}
+use Rattle.c62_adopt_cut.specs.Text.{most_bytes as most_packets_bytes}
+use Rattle.c62_reach.proofs.Front.{taken_all}
+use Rattle.c62_command.specs.CommandLine.{Adoption, Ask, Document, FlightReport, Listing, ListingPicture, LoopListing}
+use Rattle.c62_command.specs.CommandLine.{LoopPicture, LoopReport, LoopVerdicts, PacketReport, PacketsPicture, Picture}
+use Rattle.c62_command.specs.CommandLine.{Reaching, SerialReport, StandingReport, Verdicts}
+use Rattle.c62_command.specs.declared.command.Form.TheVariants.{Listed, Written}
+use Rattle.c62_answer.specs.declared.outcome.Outcome.{Outcome}
+use Rattle.c62_answer.specs.declared.outcome.Outcome.TheVariants.{Done, Drained, NotSame, Looped}
+use Rattle.c62_answer.specs.Run.{Documents, IsAnswer, IsTextAnswer, limit_of}
+use Rattle.c62_answer.proofs.Checks.{check_all, most_parted}
+use Rattle.c62_answer.proofs.Flights.{flight_all}
+use Rattle.c62_answer.proofs.Fronts.{adopted_all, code_all, drained_all, listed_all, looped_all, loops_checked_all}
+use Rattle.c62_answer.proofs.Fronts.{program_all}
+use Rattle.c62_answer.proofs.TooLong.{read_same}
+
+-- as much of an input as is read under a limit
+abbrev front : ℕ → List ℕ → List ℕ
+front most all = take (most + 1) all
+
+program_front : (all : List ℕ) → program_in all ≡ program_in (front most_bytes all)
+program_front all = sym (program_all all (front most_bytes all) refl)
+
+listed_front : (all : List ℕ) → listed_in (front most_listing_bytes all) ≡ listed_in all
+listed_front all = listed_all all (front most_listing_bytes all) refl
+
+code_front : (all : List ℕ) → code_read (front most_packets_bytes all) ≡ code_read all
+code_front all = code_all all (front most_packets_bytes all) refl
+
+-- the text that answers what was read answers all
+unfoldable answered_text : (ask : Ask) (outcome : Outcome) (all answer : List ℕ)
+    → IsTextAnswer ask outcome (front (limit_of ask) all) answer → IsTextAnswer ask outcome all answer
+answered_text (Listing packing) Done all answer is = record {
+  program = is.program;
+  says = program_front all ∙ is.says;
+  packets = is.packets;
+  packed = is.packed;
+  listed = is.listed;
+}
+answered_text (Picture showing) Done all answer is = record {
+  program = is.program;
+  says = program_front all ∙ is.says;
+  shown = is.shown;
+  packed = is.packed;
+  bounded = is.bounded;
+  drawn = is.drawn;
+}
+answered_text (ListingPicture showing) Done all answer is = record {
+  packets = is.packets;
+  read = read_same (front most_listing_bytes all) all is.packets (listed_front all) is.read;
+  drawn = is.drawn;
+}
+answered_text (PacketsPicture showing) Done all answer is = record {
+  packets = is.packets;
+  adopted = adopted_same false (front most_packets_bytes all) all is.packets 0 (code_front all) is.adopted;
+  drawn = is.drawn;
+}
+answered_text (SerialReport course settings apart) outcome all answer is = record {
+  program = is.program;
+  says = program_front all ∙ is.says;
+  reported = is.reported;
+}
+answered_text (PacketReport packing course settings) outcome all answer is = record {
+  program = is.program;
+  says = program_front all ∙ is.says;
+  packets = is.packets;
+  packed = is.packed;
+  reported = is.reported;
+}
+answered_text (StandingReport Listed course settings) outcome all answer is = record {
+  packets = is.packets;
+  read = read_same (front most_listing_bytes all) all is.packets (listed_front all) is.read;
+  reported = is.reported;
+}
+answered_text (StandingReport Written course settings) outcome all answer is = record {
+  packets = is.packets;
+  read = adopted_same false (front most_packets_bytes all) all is.packets 0 (code_front all) is.read;
+  reported = is.reported;
+}
+answered_text (FlightReport course from settings) outcome all answer is =
+    flight_all course from settings outcome all (front most_packets_bytes all) answer refl is
+answered_text (Adoption false) Done all answer is =
+    adopted_all false 0 all (front most_packets_bytes all) answer refl is
+answered_text (Adoption true) (Drained added) all answer is =
+    drained_all added all (front most_packets_bytes all) answer refl is
+answered_text (Reaching name ask) outcome all answer is =
+    (is.0, taken_all name all (front most_packets_bytes all) is.0 refl is.1, is.2)
+answered_text (Verdicts Listed) Done all answer is = check_all all (most_parted + 1) (omega arith) Listed true answer is
+answered_text (Verdicts Listed) NotSame all answer is =
+    check_all all (most_parted + 1) (omega arith) Listed false answer is
+answered_text (Verdicts Written) Done all answer is = check_all all (most_parted + 1) (omega arith) Written true answer
+    is
+answered_text (Verdicts Written) NotSame all answer is =
+    check_all all (most_parted + 1) (omega arith) Written false answer is
+answered_text (LoopVerdicts trips apart) Done all answer is =
+    loops_checked_all trips apart true all (front most_parted all) answer refl is
+answered_text (LoopVerdicts trips apart) NotSame all answer is =
+    loops_checked_all trips apart false all (front most_parted all) answer refl is
+answered_text (LoopListing verbose packing trips apart) (Looped told None) all answer is = record {
+  program = is.program;
+  written = is.written;
+  looped = looped_all packing trips apart all (front most_bytes all) is.program is.written refl is.looped;
+  lines = is.lines;
+  listed = is.listed;
+}
+answered_text (LoopPicture packing trips apart) Done all answer is = record {
+  program = is.program;
+  written = is.written;
+  looped = looped_all packing trips apart all (front most_bytes all) is.program is.written refl is.looped;
+  drawn = is.drawn;
+}
+answered_text (LoopReport verbose packing trips apart course settings) (Looped told has) all answer is = record {
+  program = is.program;
+  written = is.written;
+  looped = looped_all packing trips apart all (front most_bytes all) is.program is.written refl is.looped;
+  lines = is.lines;
+  flying = is.flying;
+  first = is.first;
+  begins = is.begins;
+  outcome = is.outcome;
+  flown = is.flown;
+  ends = is.ends;
+}
+answered_text _ _ all answer is = absurd is
+
+-- and so does its document
+documented : (ask : Ask) (outcome : Outcome) (all told answer : List ℕ)
+    (is : IsTextAnswer ask outcome (front (limit_of ask) all) told)
+    → Documents ask outcome (front (limit_of ask) all) told is answer
+    → Documents ask outcome all told (answered_text ask outcome all told is) answer
+unfolding answered_text adopted_all drained_all flight_all check_all
+documented (Listing packing) Done all told answer is document = document
+documented (Picture showing) Done all told answer is document = document
+documented (ListingPicture showing) Done all told answer is document = document
+documented (PacketsPicture showing) Done all told answer is document = document
+documented (SerialReport course settings apart) outcome all told answer is document = document
+documented (PacketReport packing course settings) outcome all told answer is document = document
+documented (StandingReport Listed course settings) outcome all told answer is document = document
+documented (StandingReport Written course settings) outcome all told answer is document = document
+documented (FlightReport course from settings) outcome all told answer is document = document
+documented (Adoption false) Done all told answer is document = document
+documented (Adoption true) (Drained added) all told answer is document = document
+documented (Reaching name ask) outcome all told answer is document = document
+documented (Verdicts Listed) Done all told answer is document = document
+documented (Verdicts Listed) NotSame all told answer is document = document
+documented (Verdicts Written) Done all told answer is document = document
+documented (Verdicts Written) NotSame all told answer is document = document
+documented (LoopVerdicts trips apart) outcome all told answer is document = document
+documented (LoopListing verbose packing trips apart) outcome all told answer is document = document
+documented (LoopPicture packing trips apart) outcome all told answer is document = document
+documented (LoopReport verbose packing trips apart course settings) (Looped lines has) all told answer is document =
+    document
+documented _ _ all told answer is document = absurd document
+
+-- the same, of what was read as far as the limit
+plain : (ask : Ask) (outcome : Outcome) (all text answer : List ℕ) → text ≡ take (limit_of ask + 1) all
+    → IsTextAnswer ask outcome text answer → IsTextAnswer ask outcome all answer
+plain ask outcome all text answer read is =
+    answered_text ask outcome all answer (subst (λ (t : List ℕ). IsTextAnswer ask outcome t answer) read is)
+
+-- the answer to what was read is the answer to all
+pub answered : (ask : Ask) (outcome : Outcome) (all text answer : List ℕ) → text ≡ take (limit_of ask + 1) all
+    → IsAnswer ask outcome text answer → IsAnswer ask outcome all answer
+answered (Document ask) outcome all text answer read is =
+    let moved = subst (λ (t : List ℕ). IsAnswer (Document ask) outcome t answer) read is in
+    (moved.0, answered_text ask outcome all moved.0 moved.1, documented ask outcome all moved.0 answer moved.1 moved.2)
+answered (Reaching name ask) outcome all text answer read is = (is.0, taken_all name all text is.0 read is.1, is.2)
+answered (Listing packing) outcome all text answer read is = plain (Listing packing) outcome all text answer read is
+answered (Picture showing) outcome all text answer read is = plain (Picture showing) outcome all text answer read is
+answered (ListingPicture showing) outcome all text answer read is =
+    plain (ListingPicture showing) outcome all text answer read is
+answered (PacketsPicture showing) outcome all text answer read is =
+    plain (PacketsPicture showing) outcome all text answer read is
+answered (SerialReport course settings apart) outcome all text answer read is =
+    plain (SerialReport course settings apart) outcome all text answer read is
+answered (PacketReport packing course settings) outcome all text answer read is =
+    plain (PacketReport packing course settings) outcome all text answer read is
+answered (StandingReport form course settings) outcome all text answer read is =
+    plain (StandingReport form course settings) outcome all text answer read is
+answered (FlightReport course from settings) outcome all text answer read is =
+    plain (FlightReport course from settings) outcome all text answer read is
+answered (Adoption drain) outcome all text answer read is = plain (Adoption drain) outcome all text answer read is
+answered (Verdicts form) outcome all text answer read is = plain (Verdicts form) outcome all text answer read is
+answered (LoopVerdicts trips apart) outcome all text answer read is =
+    plain (LoopVerdicts trips apart) outcome all text answer read is
+answered (LoopListing verbose packing trips apart) outcome all text answer read is =
+    plain (LoopListing verbose packing trips apart) outcome all text answer read is
+answered (LoopPicture packing trips apart) outcome all text answer read is =
+    plain (LoopPicture packing trips apart) outcome all text answer read is
+answered (LoopReport verbose packing trips apart course settings) outcome all text answer read is =
+    plain (LoopReport verbose packing trips apart course settings) outcome all text answer read is

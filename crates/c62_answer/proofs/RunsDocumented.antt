@@ -1,0 +1,114 @@
+-- Documents of runs of texts, from what each step gave.
+use Rattle.std.proofs.Common.{◌≡◌, ℕ, Bool, List, Option, None, Ok, Err, Vec, Global, subst}
+use Rattle.std.specs.Prelude.{codes}
+use Rattle.clap.specs.Words.{Text as Name}
+use Rattle.c62_op.specs.declared.register.Reg.{Reg}
+use Rattle.c62_read.specs.Block.{Serial}
+use Rattle.c62_read.specs.Program.{Name as Label}
+use Rattle.c62_packet.specs.Packed.{Packed}
+use Rattle.c62_adopt.specs.Answer.{code_read}
+use Rattle.c62_rows.specs.declared.text.Begun.{Begun}
+use Rattle.c62_rows.specs.Rows.{text_of}
+use Rattle.c62_rows.specs.Told.{BeginsAs}
+use Rattle.c62_command.specs.CommandLine.{Document, FlightReport, LoopReport, PacketReport, SerialReport}
+use Rattle.c62_command.specs.CommandLine.{StandingReport}
+use Rattle.c62_command.specs.declared.command.Course.{Course}
+use Rattle.c62_command.specs.declared.command.Form.{Form}
+use Rattle.c62_command.specs.declared.command.Packing.{Packing}
+use Rattle.c62_command.specs.declared.flight.FlightCourse.{FlightCourse}
+use Rattle.c62_command.specs.declared.setting.Setting.{Setting as Given}
+use Rattle.c62_pipeline.specs.declared.written.Pipelining.{Pipelining}
+use Rattle.c62_answer.specs.declared.failure.Failure.{Failure}
+use Rattle.c62_answer.specs.declared.outcome.Outcome.{Outcome}
+use Rattle.c62_answer.specs.declared.outcome.Breach.{Breach}
+use Rattle.c62_answer.specs.declared.outcome.Outcome.TheVariants.{Looped}
+use Rattle.c62_answer.specs.Looped.{IsLooped, told_lines}
+use Rattle.c62_answer.specs.Run.{Gives, IsAnswer, RefusesLooped, TellsOfFlight, TellsOfPackets, TellsOfRun, breach_of}
+use Rattle.c62_answer.specs.Schedule.{AreScheduled}
+use Rattle.c62_answer.specs.Texts.{SaysPackets, SaysProgram}
+use Rattle.c62_answer.proofs.Answering.{flight_text}
+use Rattle.c62_answer.proofs.Schedules.{runs_serially}
+use Rattle.c62_answer.proofs.Documented.{refused_too}
+use Rattle.c62_answer.proofs.Looping.{no_run_loops}
+
+pub serial_documented : (course : Course) (settings : List Given) (apart : List Reg) (outcome : Outcome)
+    (text answer : List ℕ) (program : List Serial) → SaysProgram text program
+    → TellsOfRun program settings course outcome answer
+    → IsAnswer (Document (SerialReport course settings apart)) outcome text answer
+serial_documented course settings apart outcome text answer program says (report, is, document) =
+    (report, record { program = program; says = says; reported = is }, document)
+
+pub run_documented : (packing : Packing) (course : Course) (settings : List Given) (outcome : Outcome)
+    (text answer : List ℕ) (program : List Serial) (packets : List Packed) → SaysProgram text program
+    → AreScheduled packing program packets → TellsOfPackets (codes "run") packets settings course outcome answer
+    → IsAnswer (Document (PacketReport packing course settings)) outcome text answer
+run_documented packing course settings outcome text answer program packets says packed (report, is, document) = (
+  report,
+  record {
+    program = program;
+    says = says;
+    packets = packets;
+    packed = packed;
+    reported = record {
+      reported = is;
+      serial = runs_serially packing program packets is.opening is.final course.blocks is.cycles is.chain packed
+          is.begin.sound is.run;
+    };
+  },
+  document,
+)
+
+pub sim_documented : (form : Form) (course : Course) (settings : List Given) (outcome : Outcome) (text answer : List ℕ)
+    (packets : List Packed) → SaysPackets form text packets
+    → TellsOfPackets (codes "sim") packets settings course outcome answer
+    → IsAnswer (Document (StandingReport form course settings)) outcome text answer
+sim_documented form course settings outcome text answer packets says (report, is, document) =
+    (report, record { packets = packets; read = says; reported = is }, document)
+
+pub exec_documented : (course : FlightCourse) (named from : Option Name) (settings : List Given) (outcome : Outcome)
+    (text code answer : List ℕ) (begun : Begun) → named ≡ from
+    → code_read text ≡ Ok code → BeginsAs code named begun
+    → TellsOfFlight (codes "exec") (text_of begun.rows) begun.labels.entries begun.first settings course outcome answer
+    → IsAnswer (Document (FlightReport course from settings)) outcome text answer
+unfolding flight_text
+exec_documented course named from settings outcome text code answer begun same is begins (report, flown, document) =
+    (report, flight_text course named from settings outcome text code report begun same is begins flown, document)
+
+-- ---- loops
+
+pub no_run_loops_documented : (verbose : Bool) (packing : Packing) (trips : List (Name × ℕ)) (apart : List Reg)
+    (course : FlightCourse) (settings : List Given) (text : List ℕ) (f : Failure) → RefusesLooped trips text f
+    → Gives (Document (LoopReport verbose packing trips apart course settings)) text (Err f)
+no_run_loops_documented verbose packing trips apart course settings text f refused =
+    refused_too (LoopReport verbose packing trips apart course settings) text f
+    (no_run_loops verbose packing trips apart course settings text f refused)
+
+pub loops_documented : (verbose : Bool) (packing : Packing) (trips : List (Name × ℕ)) (apart : List Reg)
+    (course : FlightCourse) (settings : List Given) (told : Vec ℕ Global) (text answer : List ℕ) (program : List Serial)
+    (written : Pipelining) (begun : Begun) (outcome : Outcome) (has : Option Breach)
+    → has ≡ breach_of outcome → IsLooped packing trips apart text program written
+    → told.items ≡ told_lines verbose program written
+    → BeginsAs written.text.items None begun
+    → TellsOfFlight (codes "run") (text_of begun.rows) begun.labels.entries begun.first settings course outcome answer
+    → IsAnswer (Document (LoopReport verbose packing trips apart course settings)) (Looped told has) text
+    answer
+loops_documented verbose packing trips apart course settings told text answer program written begun outcome has ends
+    looped lines begins tells =
+    let moved = subst (λ (labels : List (Label × ℕ)).
+    TellsOfFlight (codes "run") (text_of begun.rows) labels begun.first settings course outcome answer) begins.named
+    tells in (
+      moved.0,
+      record {
+        program = program;
+        written = written;
+        looped = looped;
+        lines = lines;
+        flying = text_of begun.rows;
+        first = begun.first;
+        begins = begins.is_text;
+        outcome = outcome;
+        flown = moved.1;
+        ends = ends;
+      },
+      moved.2,
+    )
