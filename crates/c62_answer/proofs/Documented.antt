@@ -1,4 +1,5 @@
 -- Documents, from what each step gave.
+use Rattle.std.proofs.Common.{None, ◌++◌}
 use Rattle.std.proofs.Common.{◌≡◌, ℕ, Bool, true, false, List, Option, Ok, Err, Result, refl}
 use Rattle.std.proofs.Common.{inr, sym, subst}
 use Rattle.std.specs.Prelude.{codes, slice_get}
@@ -14,6 +15,16 @@ use Rattle.c62_check.specs.Lines.{block_line, lines_from, other_words}
 use Rattle.c62_json_check.specs.Checked.{IsCheckDocument}
 use Rattle.c62_json_check.specs.Checked.IsCheckDocument.{OtherBlocks, SameBlocks}
 use Rattle.c62_json_lines.specs.Lines.{lines_document}
+use Rattle.c62_json_loops.specs.Judged.{DocumentsHaveLines, IsLoopsDocument}
+use Rattle.c62_check_loops.specs.Granted.{first_loopless}
+use Rattle.c62_check_loops.specs.Told.{AreLoopsTold}
+use Rattle.c62_check_loops.specs.Lines.{lines_from as loop_lines_from, rows_line}
+use Rattle.c62_check_loops.proofs.Done.{loops_do_the_same}
+use Rattle.c62_rows.specs.declared.text.RowsText.{RowsText}
+use Rattle.c62_rows.specs.Rows.{text_of}
+use Rattle.c62_answer.specs.Parting.{IsParted}
+use Rattle.c62_answer.specs.Texts.{SaysProgram}
+use Rattle.c62_answer.specs.Run.{GivesRowsPart}
 use Rattle.c62_command.specs.CommandLine.{Ask, Document, LoopListing, LoopPicture, LoopVerdicts, Reaching, rendered}
 use Rattle.c62_command.specs.declared.command.Packing.{Packing}
 use Rattle.c62_command.specs.declared.command.Rendering.{Rendering}
@@ -93,17 +104,6 @@ module _ (ask : Ask) (name text : List ℕ) where
 
 module _ (trips : List (Name × ℕ)) (apart : List Reg) (text : List ℕ) (reply : Reply) (outcome : Outcome)
     (answer : List ℕ) (ends : outcome ≡ reply.outcome) where
-  pub checked_lines : Gives (LoopVerdicts trips apart) text (Ok reply)
-      → answer ≡ lines_document (codes "check") reply.text.items
-      → (told : List ℕ) × (is : IsTextAnswer (LoopVerdicts trips apart) outcome text told)
-      × Documents (LoopVerdicts trips apart) outcome text told is answer
-  checked_lines gives is = (
-    reply.text.items,
-    subst (λ (o : Outcome). IsTextAnswer (LoopVerdicts trips apart) o text reply.text.items)
-        (sym ends) gives,
-    is,
-  )
-
   pub packed_lines : (verbose : Bool) (packing : Packing)
       → Gives (LoopListing verbose packing trips apart) text (Ok reply)
       → answer ≡ lines_document (codes "pack") reply.text.items
@@ -161,3 +161,55 @@ adopted_documented false text answer packets added late lacks is first said = (
   record { packets = packets; adopted = subst (IsAdopted false text packets) (lacks added is).0 is; listed = refl },
   said,
 )
+
+-- ---- loops
+
+-- a text and packets in flight were read, and this is the document of their check
+pub loops_documented : (trips : List (Name × ℕ)) (apart : List Reg) (input text listing answer : List ℕ)
+    (program : List Serial) (read : RowsText) (same plain : Bool)
+    → IsParted input text listing → SaysProgram text program → first_loopless program trips ≡ None
+    → GivesRowsPart listing (Ok read) → IsLoopsDocument trips apart program (text_of read.rows) answer same plain
+    → DocumentsHaveLines trips apart program (text_of read.rows)
+    → IsAnswer (Document (LoopVerdicts trips apart)) (outcome_of same) input answer
+loops_documented trips apart input text listing answer program read same plain parted says named flies document have =
+    let told = have answer same plain document in
+    ended same
+    (loop_lines_from program 0 told.judged.verdicts.items ++ rows_line told.judged.wanting) told.lines document
+  where
+    ended : (b : Bool) (lines : List ℕ) → AreLoopsTold trips apart program (text_of read.rows) lines b plain
+        → IsLoopsDocument trips apart program (text_of read.rows) answer b plain
+        → IsAnswer (Document (LoopVerdicts trips apart)) (outcome_of b) input answer
+    ended true lines told is = (
+      lines,
+      record {
+        text = text;
+        listing = listing;
+        parted = parted;
+        program = program;
+        says = says;
+        named = named;
+        packets = text_of read.rows;
+        flies = flies;
+        plain = plain;
+        told = told;
+        does = λ all. loops_do_the_same trips apart program (text_of read.rows) lines plain told;
+      },
+      is,
+    )
+    ended false lines told is = (
+      lines,
+      record {
+        text = text;
+        listing = listing;
+        parted = parted;
+        program = program;
+        says = says;
+        named = named;
+        packets = text_of read.rows;
+        flies = flies;
+        plain = plain;
+        told = told;
+        does = λ all. absurd cc;
+      },
+      is,
+    )

@@ -14,8 +14,9 @@ use Rattle.c62_answer.specs.declared.outcome.Outcome.{Outcome}
 use Rattle.c62_answer.specs.declared.outcome.Outcome.TheVariants.{Done, Drained, NotSame, Looped}
 use Rattle.c62_answer.specs.Run.{Documents, IsAnswer, IsTextAnswer, limit_of}
 use Rattle.c62_answer.proofs.Checks.{check_all, most_parted}
+use Rattle.c62_answer.proofs.LoopChecks.{loop_check_all}
 use Rattle.c62_answer.proofs.Flights.{flight_all}
-use Rattle.c62_answer.proofs.Fronts.{adopted_all, code_all, drained_all, listed_all, looped_all, loops_checked_all}
+use Rattle.c62_answer.proofs.Fronts.{adopted_all, code_all, drained_all, listed_all, looped_all}
 use Rattle.c62_answer.proofs.Fronts.{program_all}
 use Rattle.c62_answer.proofs.TooLong.{read_same}
 
@@ -98,9 +99,9 @@ answered_text (Verdicts Written) Done all answer is = check_all all (most_parted
 answered_text (Verdicts Written) NotSame all answer is =
     check_all all (most_parted + 1) (omega arith) Written false answer is
 answered_text (LoopVerdicts trips apart) Done all answer is =
-    loops_checked_all trips apart true all (front most_parted all) answer refl is
+    loop_check_all all (most_parted + 1) (omega arith) trips apart true answer is
 answered_text (LoopVerdicts trips apart) NotSame all answer is =
-    loops_checked_all trips apart false all (front most_parted all) answer refl is
+    loop_check_all all (most_parted + 1) (omega arith) trips apart false answer is
 answered_text (LoopListing verbose packing trips apart) (Looped told None) all answer is = record {
   program = is.program;
   written = is.written;
@@ -133,7 +134,7 @@ documented : (ask : Ask) (outcome : Outcome) (all told answer : List ℕ)
     (is : IsTextAnswer ask outcome (front (limit_of ask) all) told)
     → Documents ask outcome (front (limit_of ask) all) told is answer
     → Documents ask outcome all told (answered_text ask outcome all told is) answer
-unfolding answered_text adopted_all drained_all flight_all check_all
+unfolding answered_text adopted_all drained_all flight_all check_all loop_check_all
 documented (Listing packing) Done all told answer is document = document
 documented (Picture showing) Done all told answer is document = document
 documented (ListingPicture showing) Done all told answer is document = document
@@ -150,7 +151,8 @@ documented (Verdicts Listed) Done all told answer is document = document
 documented (Verdicts Listed) NotSame all told answer is document = document
 documented (Verdicts Written) Done all told answer is document = document
 documented (Verdicts Written) NotSame all told answer is document = document
-documented (LoopVerdicts trips apart) outcome all told answer is document = document
+documented (LoopVerdicts trips apart) Done all told answer is document = document
+documented (LoopVerdicts trips apart) NotSame all told answer is document = document
 documented (LoopListing verbose packing trips apart) outcome all told answer is document = document
 documented (LoopPicture packing trips apart) outcome all told answer is document = document
 documented (LoopReport verbose packing trips apart course settings) (Looped lines has) all told answer is document =

@@ -30,8 +30,8 @@ use Rattle.clap.specs.Words.{Text}
 use Rattle.c62_answer.specs.Texts.{IsNoListing, IsNoPackets, IsNoProgram}
 use Rattle.c62_op.specs.declared.register.Reg.{Reg}
 use Rattle.c62_answer.specs.Check.{IsNoCheck}
-use Rattle.c62_answer.specs.LoopCheck.{IsLoopCheck, IsNoLoopCheck}
-use Rattle.c62_answer.proofs.LoopChecks.{loop_check_all, no_loop_check_all}
+use Rattle.c62_answer.specs.LoopCheck.{IsNoLoopCheck}
+use Rattle.c62_answer.proofs.LoopChecks.{no_loop_check_all}
 use Rattle.c62_answer.proofs.Checks.{most_parted}
 use Rattle.c62_answer.proofs.Checks.{no_check_all}
 use Rattle.c62_answer.proofs.TooLong.{refuses_same, too_long, too_long_listing}
@@ -101,13 +101,6 @@ unchecked_all Listed all text message read is = no_check_all all (most_parted + 
     (subst (λ (xs : List ℕ). IsNoCheck Listed xs message) read is)
 unchecked_all Written all text message read is = no_check_all all (most_parted + 1) (omega arith) Written message
     (subst (λ (xs : List ℕ). IsNoCheck Written xs message) read is)
-
-pub loops_checked_all : (trips : List (Text × ℕ)) (apart : List Reg) (same : Bool) (all text answer : List ℕ)
-    → text ≡ take (most_parted + 1) all
-    → IsLoopCheck trips apart text same answer → IsLoopCheck trips apart all same answer
-loops_checked_all trips apart same all text answer read is =
-    loop_check_all all (most_parted + 1) (omega arith) trips apart same answer
-    (subst (λ (xs : List ℕ). IsLoopCheck trips apart xs same answer) read is)
 
 loops_unchecked_all : (trips : List (Text × ℕ)) (all text message : List ℕ) → text ≡ take (most_parted + 1) all
     → IsNoLoopCheck trips text message → IsNoLoopCheck trips all message

@@ -11,7 +11,7 @@ use Rattle.c62_answer.proofs.TooLong.{short_said}
 use Rattle.c62_answer.proofs.Flights.{flying_same, no_flight_same}
 
 module _ (all : List ℕ) (n : ℕ) (enough : most_parted + 1 ≤ n) where
-  pub loop_check_all : (trips : List (Name × ℕ)) (apart : List Reg) (same : Bool) (answer : List ℕ)
+  unfoldable pub loop_check_all : (trips : List (Name × ℕ)) (apart : List Reg) (same : Bool) (answer : List ℕ)
       → IsLoopCheck trips apart (take n all) same answer
       → IsLoopCheck trips apart all same answer
   loop_check_all trips apart same answer is =

@@ -68,6 +68,7 @@ use Rattle.c62_profile.specs.Visits.{CountsPackets, CountsProgram}
 use Rattle.c62_profile.specs.Table.{packet_table, serial_table}
 use Rattle.c62_profile.specs.Flights.{flight_table}
 use Rattle.c62_json_lines.specs.Lines.{lines_document}
+use Rattle.c62_json_loops.specs.Judged.{IsLoopsDocument}
 use Rattle.c62_json_report.specs.Runs.{serial_members, packet_members, flight_members}
 use Rattle.c62_json.specs.Document.{document}
 use Rattle.c62_json_packets.specs.Packets.{blocks_member}
@@ -477,7 +478,7 @@ drained_told false added = None
 drained_told true added = Some (drained_of added)
 
 -- The document of an answer (docs/JSON.md). It tells what the text of the same answer tells: both are of one record. Of packets in flight
--- that aren't run, and of their check, it has the lines of the text.
+-- that aren't run it has the lines of the text.
 abbrev pub Documents : (ask : Ask) (outcome : Outcome) (text told : List ℕ) → IsTextAnswer ask outcome text told → (answer : List ℕ) → Type 0
 Documents (Listing packing) Done text told is answer = answer ≡ document (codes "pack") (blocks_member is.packets)
 Documents (Picture showing) Done text told is answer = answer ≡ document (codes "show") (shown_members showing.summary is.shown)
@@ -496,7 +497,8 @@ Documents (Adoption true) (Drained added) text told is answer = answer ≡ docum
 Documents (Reaching name ask) outcome text told is answer = Documents ask outcome is.0 told is.2 answer
 Documents (Verdicts form) Done text told is answer = IsCheckDocument is.program is.packets answer true
 Documents (Verdicts form) NotSame text told is answer = IsCheckDocument is.program is.packets answer false
-Documents (LoopVerdicts trips apart) outcome text told is answer = answer ≡ lines_document (codes "check") told
+Documents (LoopVerdicts trips apart) Done text told is answer = IsLoopsDocument trips apart is.program is.packets answer true is.plain
+Documents (LoopVerdicts trips apart) NotSame text told is answer = IsLoopsDocument trips apart is.program is.packets answer false is.plain
 Documents (LoopListing verbose packing trips apart) outcome text told is answer = answer ≡ lines_document (codes "pack") told
 Documents (LoopPicture packing trips apart) outcome text told is answer = answer ≡ lines_document (codes "show") told
 Documents (LoopReport verbose packing trips apart course settings) (Looped lines has) text told is answer =

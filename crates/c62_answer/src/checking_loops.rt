@@ -17,7 +17,7 @@ use std::alloc::Global;
 
 /// The rows of the packets that are to be checked in flight.
 #[tactic(auto, using(crate::proofs::FlyingPart::uncoded_rows, crate::proofs::FlyingPart::no_rows, crate::proofs::FlyingPart::rows_fly))]
-fn rows_part(alloc: Global, text: &[u8]) -> Result<RowsText, Failure>
+pub(crate) fn rows_part(alloc: Global, text: &[u8]) -> Result<RowsText, Failure>
     ensures { GivesRowsPart text.now result }
 {
     let code = match read_code(alloc, text) {

@@ -9,7 +9,7 @@ ghost use Rattle.c62_json_lines.specs.Lines.{lines_document};
 
 use crate::answer::{added_in, program_of};
 use crate::checking::{packets_part, text_part, unparted};
-use crate::checking_loops::loop_verdicts;
+use crate::checking_loops::rows_part;
 use crate::failure::Failure;
 use crate::outcome::{Added, Outcome, Reply};
 use crate::packets::packets_in;
@@ -21,10 +21,13 @@ use crate::standing::details_of;
 use c62_adopt::adopt;
 use c62_adopt::laws::texts_that_stand_lack_nothing;
 use c62_check::laws::checked_packets_are_serial;
+use c62_check_loops::first_loopless;
 use c62_command::{Adopting, Form, Looping, Packing, Promises, Showing};
 use c62_json_adopt::{Drained, adopted_document};
 use c62_json_check::check_document;
 use c62_json_lines::lines_document;
+use c62_json_loops::laws::documents_have_lines;
+use c62_json_loops::loops_document;
 use c62_json_packets::packets_document;
 use c62_json_show::shown_document;
 use c62_read::Program;
@@ -196,7 +199,6 @@ fn lines_reply(alloc: Global, command: &str, reply: Reply) -> Result<Reply, Allo
 }
 
 /// The document of what is told of packets in flight, held against the loops of the text that stands before them.
-#[tactic(auto, using(crate::proofs::Documented::checked_lines, crate::proofs::Documented::refused_too))]
 pub(crate) fn loop_verdicts_document(
     alloc: Global,
     promises: &Promises,
@@ -204,10 +206,21 @@ pub(crate) fn loop_verdicts_document(
 ) -> Result<Reply, Failure>
     ensures { Gives (Document (LoopVerdicts (map trips_of promises.now.trips.items) promises.now.apart.items)) input.now result }
 {
-    match loop_verdicts(alloc, promises, input) {
-        Ok(reply) => Ok(lines_reply(alloc, "check", reply)?),
-        Err(failure) => Err(failure),
+    let Some(parts) = parts_of(input) else {
+        return Err(unparted(input));
+    };
+    let program = text_part(alloc, parts.text)?;
+    if let Some(number) = first_loopless(program.blocks(), &promises.trips) {
+        return Err(Failure::NoLoop(number));
     }
+    let read = rows_part(alloc, parts.listing)?;
+    let checked = loops_document(alloc, &program, &read, promises)?;
+    // It tells that the lines of the check stand for the document.
+    documents_have_lines();
+    Ok(Reply {
+        text: checked.text,
+        outcome: Outcome::of_check(checked.same),
+    })
 }
 
 /// The document of the packets of a text whose loops are pipelined.

@@ -76,7 +76,8 @@ refused_words wanted words error is = record
 
 -- ---- words of which more is told
 
-taught_so : (wanted : Bool) (ask : Ask) (name listing text more : List ℕ) → TeachesWanted wanted ask name listing text more
+taught_so : (wanted : Bool) (ask : Ask) (name listing text more : List ℕ)
+    → TeachesWanted wanted ask name listing text more
     → TeachesWanted wanted (Document ask) name listing text more
 taught_so true ask name listing text more is = is
 taught_so false ask name listing text more is = is

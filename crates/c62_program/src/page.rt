@@ -42,13 +42,14 @@ docs/SERIAL_TEXT.md, docs/LISTING.md, docs/ADOPT.md, docs/EXEC.md and docs/CHECK
 pub const LINT: &str = "\
 Prints the first fault of each faulty line of a text, as FILE:LINE:COLUMN: error: NAME: SENTENCE
 
-Usage: c62 lint [--as <KIND>] [--most <N>] [-o <FILE>] [FILE]
+Usage: c62 lint [--as <KIND>] [--most <N>] [--json] [-o <FILE>] [FILE]
 
 Options:
       --as <KIND>  What the text is: serial (as pack reads it), listing (as sim reads it) or
                    packets (as adopt reads them, with reads in delay slots as warnings);
                    serial where none is given
       --most <N>   Prints at most N faults, 1 to 1000; 100 where none is given
+      --json       Writes the same as a JSON document
 
 The status is 1 where the text is refused for a fault, and else 0.
 

@@ -6,7 +6,7 @@ use Rattle.std.specs.Str.{bytes_eq}
 use Rattle.c62_token.specs.Number.{number_of}
 use Rattle.c62_teach.specs.declared.words.Kind.{Kind}
 use Rattle.c62_teach.specs.declared.words.Linting.{Linting}
-use Rattle.c62_teach.specs.Words.{Text, behind_first, changed, default, kind_of, linting_by, linting_of, most_by}
+use Rattle.c62_teach.specs.Words.{Text, as_json, behind_first, changed, default, kind_of, linting_by, most_by}
 use Rattle.c62_teach.specs.Words.{most_of, with_kind, with_most}
 
 most_some : (z : ℤ) → IfSome (most_by z) (λ most. 1 ≤ most)
@@ -57,5 +57,11 @@ by_some (option ∷ value ∷ words) = go (changed default option value) (change
     go None none = tt
     go (Some so) some = behind_some so words some
 
-pub by_most : (found : Option Linting) (words : List Text) → found ≡ linting_by words → IfSome found (λ so. 1 ≤ so.most)
-by_most found words is = rw is (by_some words)
+json_some : (json : Bool) (o : Option Linting) → IfSome o (λ so. 1 ≤ so.most)
+    → IfSome (option_map (as_json json) o) (λ so. 1 ≤ so.most)
+json_some json None some = tt
+json_some json (Some so) some = some
+
+pub by_most : (found by : Option Linting) (json : Bool) (words : List Text) → by ≡ linting_by words
+    → found ≡ option_map (as_json json) by → IfSome found (λ so. 1 ≤ so.most)
+by_most found by json words is so = rw (so, is) (json_some json (linting_by words) (by_some words))

@@ -5,6 +5,7 @@ use Rattle.c62_read.specs.Program.{Refusal, program_in}
 use Rattle.c62_lint.specs.Faults.{refusal_of}
 use Rattle.c62_explain.specs.Picture.{LintsOne, LintsText}
 use Rattle.c62_explain_packets.specs.Linted.{IsLintedListing, IsLintedPackets}
+use Rattle.c62_json_lint.specs.Linted.{IsListingDocument, IsPacketsDocument, IsSerialDocument}
 use Rattle.c62_teach.specs.declared.words.Kind.{Kind}
 use Rattle.c62_teach.specs.declared.words.Kind.TheVariants.{Serial, Listing, Packets}
 use Rattle.c62_teach.specs.declared.words.Linting.{Linting}
@@ -31,5 +32,15 @@ IsLintedAs Serial most name text lines faulty = IsLintedSerial most name text li
 IsLintedAs Listing most name text lines faulty = IsLintedListing name text lines faulty
 IsLintedAs Packets most name text lines faulty = IsLintedPackets most name text lines faulty
 
-abbrev pub IsLinted : Linting → (name text lines : List ℕ) → (faulty : Bool) → Type 0
-IsLinted linting name text lines faulty = IsLintedAs linting.kind linting.most name text lines faulty
+-- its document
+abbrev pub IsDocumentAs : Kind → (most : ℕ) → (name text lines : List ℕ) → (faulty : Bool) → Type 0
+IsDocumentAs Serial most name text document faulty = IsSerialDocument most name text document faulty
+IsDocumentAs Listing most name text document faulty = IsListingDocument name text document faulty
+IsDocumentAs Packets most name text document faulty = IsPacketsDocument most name text document faulty
+
+abbrev pub IsLintedSo : (json : Bool) → Kind → (most : ℕ) → (name text told : List ℕ) → (faulty : Bool) → Type 0
+IsLintedSo false kind most name text told faulty = IsLintedAs kind most name text told faulty
+IsLintedSo true kind most name text told faulty = IsDocumentAs kind most name text told faulty
+
+abbrev pub IsLinted : Linting → (name text told : List ℕ) → (faulty : Bool) → Type 0
+IsLinted linting name text told faulty = IsLintedSo linting.json linting.kind linting.most name text told faulty

@@ -1,5 +1,5 @@
 -- What the words of `lint` ask for, and which words ask for explanations (docs/FAULTS.md) or for a strict run.
-use Rattle.std.specs.Prelude.{ℕ, ℤ, pos, int_le, nat_eq, unsigned_abs, Bool, false, ◌&&◌, ◌||◌, List, [], ◌∷◌, Option, Some, None, option_map, option_and_then, codes, if◌then◌else◌}
+use Rattle.std.specs.Prelude.{ℕ, ◌+◌, ℤ, pos, int_le, nat_eq, nat_le, length, unsigned_abs, Bool, false, ◌&&◌, ◌||◌, List, [], ◌∷◌, Option, Some, None, option_map, option_and_then, codes, if◌then◌else◌}
 use Rattle.std.specs.List.{flat_map, list_any, starts_with}
 use Rattle.std.specs.Str.{bytes_eq}
 use Rattle.c62_token.specs.Number.{number_of}
@@ -30,10 +30,10 @@ kind_of word =
     else None))
 
 abbrev pub with_most : Linting → ℕ → Linting
-with_most linting most = record { kind = linting.kind; most = most }
+with_most linting most = record { kind = linting.kind; most = most; json = linting.json }
 
 abbrev pub with_kind : Linting → Kind → Linting
-with_kind linting kind = record { kind = kind; most = linting.most }
+with_kind linting kind = record { kind = kind; most = linting.most; json = linting.json }
 
 -- `--most N`, or `--as KIND`
 abbrev pub changed : Linting → (option value : Text) → Option Linting
@@ -44,7 +44,7 @@ changed linting option value =
 
 -- 100 faults of a serial text, where nothing is said
 abbrev pub default : Linting
-default = record { kind = Serial; most = 100 }
+default = record { kind = Serial; most = 100; json = false }
 
 -- what is wanted behind a first option: a second one may follow, and of two alike that stands
 abbrev pub behind_first : Linting → List Text → Option Linting
@@ -58,9 +58,26 @@ linting_by [] = Some default
 linting_by (option ∷ value ∷ words) = option_and_then (λ linting. behind_first linting words) (changed default option value)
 linting_by _ = None
 
+-- `--json`
+abbrev pub is_json : Text → Bool
+is_json word = bytes_eq word (codes "--json")
+
+abbrev pub other_word : Text → List Text
+other_word word = if is_json word then [] else word ∷ []
+
+-- the other words
+abbrev pub other_words : List Text → List Text
+other_words words = flat_map other_word words
+
+abbrev pub as_json : Bool → Linting → Linting
+as_json json linting = record { kind = linting.kind; most = linting.most; json = json }
+
+-- `--json` stands at most once, anywhere among the words behind `lint`
 abbrev pub linting_of : List Text → Option Linting
 linting_of [] = None
-linting_of (command ∷ words) = linting_by words
+linting_of (command ∷ words) =
+    if nat_le (length words) (length (other_words words) + 1) then option_map (as_json (list_any is_json words)) (linting_by (other_words words))
+    else None
 
 -- ---- `--explain`
 

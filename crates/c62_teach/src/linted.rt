@@ -1,11 +1,12 @@
 //! The faults of a text, one a line.
 
 ghost use Rattle.std.specs.Prelude.{◌≤◌, IfOk};
-ghost use Rattle.c62_teach.specs.Linted.{IsLinted, IsLintedSerial};
+ghost use Rattle.c62_teach.specs.Linted.{IsDocumentAs, IsLinted, IsLintedAs, IsLintedSerial};
 
 use crate::words::{Kind, Linting};
 use c62_explain::lint;
 use c62_explain_packets::{Linted, lint_listing, lint_packets};
+use c62_json_lint::{listing_document, packets_document, serial_document};
 use std::alloc::{AllocError, Global};
 
 /// The faults of a serial text that has this name.
@@ -21,7 +22,40 @@ fn lint_serial(alloc: Global, name: &[u8], text: &[u8], most: usize) -> Result<L
     })
 }
 
-/// The faults of a text that has this name, one a line (docs/FAULTS.md, "All faults at once").
+/// The faults of a text that has this name, one a line.
+fn lines_of(alloc: Global, linting: Linting, name: &[u8], text: &[u8]) -> Result<Linted, AllocError>
+    requires { 1 ≤ linting.most }
+    ensures { IfOk result (λ linted. IsLintedAs linting.kind linting.most name.now text.now linted.lines.items linted.faulty) }
+{
+    match linting.kind {
+        Kind::Serial => lint_serial(alloc, name, text, linting.most),
+        Kind::Listing => lint_listing(alloc, name, text),
+        Kind::Packets => lint_packets(alloc, name, text, linting.most),
+    }
+}
+
+/// The document of the faults of a text that has this name.
+fn document_of(
+    alloc: Global,
+    linting: Linting,
+    name: &[u8],
+    text: &[u8],
+) -> Result<Linted, AllocError>
+    requires { 1 ≤ linting.most }
+    ensures { IfOk result (λ linted. IsDocumentAs linting.kind linting.most name.now text.now linted.lines.items linted.faulty) }
+{
+    let told = match linting.kind {
+        Kind::Serial => serial_document(alloc, name, text, linting.most),
+        Kind::Listing => listing_document(alloc, name, text),
+        Kind::Packets => packets_document(alloc, name, text, linting.most),
+    }?;
+    Ok(Linted {
+        lines: told.text,
+        faulty: told.faulty,
+    })
+}
+
+/// The faults of a text that has this name, one a line (docs/FAULTS.md, "All faults at once"), or their document (docs/JSON.md, "lint").
 ///
 /// # Errors
 ///
@@ -35,9 +69,9 @@ pub fn lint_text(
     requires { 1 ≤ linting.most }
     ensures { IfOk result (λ linted. IsLinted linting name.now text.now linted.lines.items linted.faulty) }
 {
-    match linting.kind {
-        Kind::Serial => lint_serial(alloc, name, text, linting.most),
-        Kind::Listing => lint_listing(alloc, name, text),
-        Kind::Packets => lint_packets(alloc, name, text, linting.most),
+    if linting.json {
+        document_of(alloc, linting, name, text)
+    } else {
+        lines_of(alloc, linting, name, text)
     }
 }

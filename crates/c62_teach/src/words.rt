@@ -1,9 +1,9 @@
 //! What the words of `lint` ask for, and which words ask for explanations (docs/FAULTS.md).
 
-ghost use Rattle.std.specs.Prelude.{◌≡◌, ◌≤◌, IfOk, IfSome, OnOk, ◌++◌, codes, map, string_bytes};
+ghost use Rattle.std.specs.Prelude.{◌≡◌, ◌≤◌, ◌∷◌, ℕ, List, IfOk, IfSome, OnOk, ◌++◌, codes, map, option_map, string_bytes};
 ghost use Rattle.std.specs.List.{list_any};
 ghost use Rattle.std.specs.Str.{bytes_eq};
-ghost use Rattle.c62_teach.specs.Words.{asks_apart, asks_strict, behind_first, changed, explains, is_answered, is_explained, is_lint, kind_of, linting_by, linting_of, most_by, most_of, is_strict, is_watched, names_apart, plain_word, plain_words, makes_run};
+ghost use Rattle.c62_teach.specs.Words.{as_json, asks_apart, asks_strict, is_json, other_word, other_words, behind_first, changed, explains, is_answered, is_explained, is_lint, kind_of, linting_by, linting_of, most_by, most_of, is_strict, is_watched, names_apart, plain_word, plain_words, makes_run};
 
 use c62_token::number::number;
 use std::alloc::{AllocError, Global};
@@ -25,12 +25,15 @@ pub struct Linting {
     pub kind: Kind,
     /// How many faults are told at most, 1 to 1,000.
     pub most: usize,
+    /// Whether they are told as a JSON document.
+    pub json: bool,
 }
 
 /// What is wanted where nothing is said.
 const DEFAULT: Linting = Linting {
     kind: Kind::Serial,
     most: 100,
+    json: false,
 };
 
 /// Whether the words ask for `lint`.
@@ -83,11 +86,13 @@ fn changed(linting: Linting, option: &str, value: &str) -> Option<Linting>
         Some(Linting {
             kind: linting.kind,
             most: most_of(value)?,
+            json: linting.json,
         })
     } else if option == "--as" {
         Some(Linting {
             kind: kind_of(value)?,
             most: linting.most,
+            json: linting.json,
         })
     } else {
         None
@@ -95,38 +100,101 @@ fn changed(linting: Linting, option: &str, value: &str) -> Option<Linting>
 }
 
 /// What is wanted behind a first option.
-fn behind_first(linting: Linting, words: &[String]) -> Option<Linting>
-    ensures { result ≡ behind_first linting (map string_bytes words.now) }
+fn behind_first(linting: Linting, words: &[&str]) -> Option<Linting>
+    ensures { result ≡ behind_first linting (map (λ word. word.now) words.now) }
 {
     match words {
         [] => Some(linting),
-        [option, value] => changed(linting, option.as_str(), value.as_str()),
+        [option, value] => changed(linting, option, value),
         _ => None,
     }
 }
 
 /// What the words behind `lint` want.
 #[tactic(auto, unfolding(crate::specs::Words::linting_by))]
-fn linting_by(words: &[String]) -> Option<Linting>
-    ensures { result ≡ linting_by (map string_bytes words.now) }
+fn linting_by(words: &[&str]) -> Option<Linting>
+    ensures { result ≡ linting_by (map (λ word. word.now) words.now) }
 {
     match words {
         [] => Some(DEFAULT),
         [_] => None,
-        [option, value, rest @ ..] => {
-            behind_first(changed(DEFAULT, option.as_str(), value.as_str())?, rest)
-        }
+        [option, value, rest @ ..] => { behind_first(changed(DEFAULT, option, value)?, rest) }
     }
 }
 
-/// What the words that begin with `lint` want: `--most N` and `--as KIND`, in any order. None for other words.
-pub fn linting_of(words: &[String]) -> Option<Linting>
-    ensures is { result ≡ linting_of (map string_bytes words.now) }
-    ensures most { IfSome result (λ linting. 1 ≤ linting.most) }
+/// Adds a word that isn't `--json`.
+fn push_other<'a>(others: &mut Vec<&'a str>, word: &'a str) -> Result<(), AllocError>
+    ensures { OnOk result (map (λ word. word.now) others.new.items ≡ map (λ word. word.now) others.old.items ++ other_word word.entry.now) }
+{
+    if word == "--json" {
+        Ok(())
+    } else {
+        Ok(others.push(word)?)
+    }
+}
+
+/// The words but `--json`.
+fn other_words<'a>(alloc: Global, words: &'a [String]) -> Result<Vec<&'a str>, AllocError>
+    ensures { IfOk result (λ others. map (λ word. word.now) others.items ≡ other_words (map string_bytes words.entry.now)) }
+{
+    let mut others = Vec::new(alloc);
+    for word in words {
+        push_other(&mut others, word.as_str())?;
+    }
+    Ok(others)
+}
+
+/// Whether a word is `--json`.
+fn has_json(words: &[String]) -> bool
+    ensures { result ≡ list_any (λ word. bytes_eq (string_bytes word) (codes "--json")) words.now }
+{
+    words.iter().any(|word| word.as_str() == "--json")
+}
+
+fn asks_json(words: &[String]) -> bool
+    ensures { result ≡ list_any is_json (map string_bytes words.now) }
+{
+    has_json(words)
+}
+
+/// What is wanted, as a document or not.
+fn as_json(json: bool, linting: Option<Linting>) -> Option<Linting>
+    ensures { result ≡ option_map (as_json json) linting }
+{
+    let linting = linting?;
+    Some(Linting {
+        kind: linting.kind,
+        most: linting.most,
+        json,
+    })
+}
+
+/// What the words behind `lint` want.
+#[tactic(auto, using(crate::proofs::Most::by_most))]
+fn linting_behind(alloc: Global, words: &[String]) -> Result<Option<Linting>, AllocError>
+    ensures is { IfOk result (λ linting. (command : List ℕ) → linting ≡ linting_of (command ∷ map string_bytes words.now)) }
+    ensures most { IfOk result (λ linting. IfSome linting (λ linting. 1 ≤ linting.most)) }
+{
+    let others = other_words(alloc, words)?;
+    if words.len() <= others.len() + 1 {
+        Ok(as_json(asks_json(words), linting_by(&others)))
+    } else {
+        Ok(None)
+    }
+}
+
+/// What the words that begin with `lint` want: `--most N` and `--as KIND`, in any order, and `--json` anywhere among them. None for other words.
+///
+/// # Errors
+///
+/// `AllocError` where memory ran out.
+pub fn linting_of(alloc: Global, words: &[String]) -> Result<Option<Linting>, AllocError>
+    ensures is { IfOk result (λ linting. linting ≡ linting_of (map string_bytes words.now)) }
+    ensures most { IfOk result (λ linting. IfSome linting (λ linting. 1 ≤ linting.most)) }
 {
     match words {
-        [] => None,
-        [_, options @ ..] => linting_by(options),
+        [] => Ok(None),
+        [_, options @ ..] => linting_behind(alloc, options),
     }
 }
 

@@ -18,5 +18,8 @@ returns-in-Adopt g c = rw c.in-Adopt.is c.adopt_document.ensures
 pub returns-in-Check : goal.returns-in-Check
 returns-in-Check g c = rw c.in-Check.is c.verdicts_document.ensures
 
+pub returns-in-CheckLoops : goal.returns-in-CheckLoops
+returns-in-CheckLoops g c = rw c.in-CheckLoops.is c.loop_verdicts_document.ensures
+
 pub returns-in-RunLoops : goal.returns-in-RunLoops
 returns-in-RunLoops g c = rw c.in-RunLoops.is c.loop_report_document.ensures
