@@ -1,5 +1,5 @@
 -- What is told of accesses that are to be apart, where a text is read and where it is refused.
-use Rattle.std.proofs.Common.{◌≡◌, inl, inr, ℕ, Bool, List, refl, ap}
+use Rattle.std.proofs.Common.{inl, inr, ℕ, Bool, List, refl, ap}
 use Rattle.std.specs.Prelude.{◌≢◌}
 use Rattle.c62_op.specs.declared.register.Reg.{Reg}
 use Rattle.c62_line.specs.declared.fault.Cause.TheVariants.{Memory}

@@ -1,9 +1,9 @@
 -- The first line that `lint` answers, and what is explained, are of the fault that the text is refused for.
-use Rattle.std.proofs.Common.{◌≡◌, ◌≢◌, ◌∙◌, ◌⊎◌, inl, inr, ℕ, zero, suc, ◌≤◌, Bool, List, [], ◌∷◌, ◌++◌, length, map}
-use Rattle.std.proofs.Common.{take, Option, Some, None, Result, Ok, Err, refl, sym, ap, ◌+◌, arith}
+use Rattle.std.proofs.Common.{◌≡◌, ◌≢◌, ◌∙◌, inl, inr, ℕ, zero, suc, ◌≤◌, List, [], ◌∷◌, ◌++◌, length, map}
+use Rattle.std.proofs.Common.{take, Result, Ok, Err, refl, ap, ◌+◌, arith}
 use Rattle.std.proofs.lemmas.Bool.Decides.{nat_tests}
 use Rattle.std.specs.Result.{result_err}
-use Rattle.std.specs.Prelude.{not, ◌==◌, is_err, IfErr, codes, min, true}
+use Rattle.std.specs.Prelude.{not, ◌==◌, is_err, IfErr, codes, true}
 use Rattle.std.proofs.lemmas.List.{length-append, append_assoc}
 use Rattle.c62_line.specs.declared.fault.Cause.TheVariants.{Memory}
 use Rattle.c62_line.specs.declared.fault.ReadFault.{ReadFault}
@@ -13,11 +13,11 @@ use Rattle.c62_place.specs.declared.place.Place.{Place}
 use Rattle.c62_lint.specs.Faults.{faults_in, refusal_of}
 use Rattle.c62_lint.specs.Laws.{first_among}
 use Rattle.c62_lint.proofs.FaultLemmas.{first_refusal}
-use Rattle.c62_explain.specs.Picture.{AddsHelp, Explains, Lints, LintsOne, LintsText, few, lint_line, position}
+use Rattle.c62_explain.specs.Picture.{AddsHelp, Explains, Lints, LintsText, few, lint_line, position}
 use Rattle.c62_explain.specs.Sentence.{sentence}
 use Rattle.c62_explain.proofs.HintLemmas.{both_help}
 use Rattle.c62_teach.specs.Linted.{BeginsWith, IsLintedSerial}
-use Rattle.c62_teach.specs.Taught.{ExplainsRefusal, TeachesSerial}
+use Rattle.c62_teach.specs.Taught.{TeachesSerial}
 
 -- a line isn't empty
 some_line : (name : List ℕ) (fault : ReadFault) (place : Place) → 1 ≤ length (lint_line name fault place)

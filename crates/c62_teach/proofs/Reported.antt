@@ -1,16 +1,14 @@
 -- The accesses that are told are of the lines that a report names.
-use Rattle.std.proofs.Common.{◌≡◌, ◌∙◌, ◌⊎◌, inl, inr, ℕ, ◌<◌, ◌≤◌, List, [], ◌∷◌, length, refl, sym, ap, subst, arith}
-use Rattle.std.specs.Prelude.{◌↔◌, All, Contains, IsTrue, fold, slice_index, true}
+use Rattle.std.proofs.Common.{◌≡◌, ◌∙◌, ◌⊎◌, inl, inr, ℕ, ◌<◌, ◌≤◌, List, [], ◌∷◌, length, refl, sym, ap, subst}
+use Rattle.std.specs.Prelude.{◌↔◌, All, Contains, IsTrue, slice_index, true}
 use Rattle.std.specs.List.{flat_map}
 use Rattle.std.proofs.lemmas.Bool.{cases_lt}
 use Rattle.std.proofs.lemmas.List.{get_or_past}
-use Rattle.c62_op.specs.declared.register.Reg.{Reg}
 use Rattle.c62_read.specs.Block.{Serial}
 use Rattle.c62_read.specs.Program.{Name}
 use Rattle.c62_serial.specs.declared.chain.Chain.{Chain}
-use Rattle.c62_serial.specs.State.{IsSound, IsZero, Machine, byte_in, index_of, word_in}
+use Rattle.c62_serial.specs.State.{IsSound, IsZero, Machine, index_of}
 use Rattle.c62_serial.specs.Chain.{RunsProgram}
-use Rattle.c62_serial.specs.Laws.{HoldsTheSame}
 use Rattle.c62_serial.proofs.MachineLemmas.{same_machine}
 use Rattle.c62_packet.specs.Packed.{Packed}
 use Rattle.c62_pipe.specs.Chain.{RunsPackets}

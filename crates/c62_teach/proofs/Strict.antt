@@ -32,7 +32,7 @@ use Rattle.c62_answer.specs.Message.{adopt_message, fault_message, list_message,
 use Rattle.c62_answer.specs.Texts.{SaysProgram}
 use Rattle.c62_teach.specs.Faulted.{TellsCode, TellsFlight, TellsPackets, TellsProgram, TellsRows, TellsRun}
 use Rattle.c62_teach.specs.Faulted.{TellsStanding, TellsTaken}
-use Rattle.c62_read.specs.Program.{Fails, Refusal}
+use Rattle.c62_read.specs.Program.{Fails}
 
 -- ---- serial text
 

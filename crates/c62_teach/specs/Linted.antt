@@ -1,5 +1,5 @@
 -- What `lint` answers (docs/FAULTS.md, "All faults at once").
-use Rattle.std.specs.Prelude.{◌≡◌, ℕ, Bool, List, ◌++◌, is_err, IfErr}
+use Rattle.std.specs.Prelude.{◌≡◌, ℕ, Bool, true, false, List, ◌++◌, is_err, IfErr}
 use Rattle.c62_line.specs.declared.fault.ReadFault.{ReadFault}
 use Rattle.c62_read.specs.Program.{Refusal, program_in}
 use Rattle.c62_lint.specs.Faults.{refusal_of}

@@ -72,12 +72,15 @@ other_words words = flat_map other_word words
 abbrev pub as_json : Bool → Linting → Linting
 as_json json linting = record { kind = linting.kind; most = linting.most; json = json }
 
--- `--json` stands at most once, anywhere among the words behind `lint`
-abbrev pub linting_of : List Text → Option Linting
-linting_of [] = None
-linting_of (command ∷ words) =
+-- what the words behind `lint` want, among which `--json` stands at most once, anywhere
+unfoldable pub linting_behind : List Text → Option Linting
+linting_behind words =
     if nat_le (length words) (length (other_words words) + 1) then option_map (as_json (list_any is_json words)) (linting_by (other_words words))
     else None
+
+abbrev pub linting_of : List Text → Option Linting
+linting_of [] = None
+linting_of (command ∷ words) = linting_behind words
 
 -- ---- `--explain`
 

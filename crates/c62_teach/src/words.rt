@@ -1,9 +1,9 @@
 //! What the words of `lint` ask for, and which words ask for explanations (docs/FAULTS.md).
 
-ghost use Rattle.std.specs.Prelude.{◌≡◌, ◌≤◌, ◌∷◌, ℕ, List, IfOk, IfSome, OnOk, ◌++◌, codes, map, option_map, string_bytes};
+ghost use Rattle.std.specs.Prelude.{◌≡◌, ◌≤◌, IfOk, IfSome, OnOk, ◌++◌, codes, map, option_map, string_bytes};
 ghost use Rattle.std.specs.List.{list_any};
 ghost use Rattle.std.specs.Str.{bytes_eq};
-ghost use Rattle.c62_teach.specs.Words.{as_json, asks_apart, asks_strict, is_json, other_word, other_words, behind_first, changed, explains, is_answered, is_explained, is_lint, kind_of, linting_by, linting_of, most_by, most_of, is_strict, is_watched, names_apart, plain_word, plain_words, makes_run};
+ghost use Rattle.c62_teach.specs.Words.{as_json, asks_apart, asks_strict, is_json, other_word, other_words, behind_first, changed, explains, is_answered, is_explained, is_lint, kind_of, linting_behind, linting_by, linting_of, most_by, most_of, is_strict, is_watched, names_apart, plain_word, plain_words, makes_run};
 
 use c62_token::number::number;
 use std::alloc::{AllocError, Global};
@@ -170,9 +170,9 @@ fn as_json(json: bool, linting: Option<Linting>) -> Option<Linting>
 }
 
 /// What the words behind `lint` want.
-#[tactic(auto, using(crate::proofs::Most::by_most))]
+#[tactic(auto, unfolding(crate::specs::Words::linting_behind))]
 fn linting_behind(alloc: Global, words: &[String]) -> Result<Option<Linting>, AllocError>
-    ensures is { IfOk result (λ linting. (command : List ℕ) → linting ≡ linting_of (command ∷ map string_bytes words.now)) }
+    ensures is { IfOk result (λ linting. linting ≡ linting_behind (map string_bytes words.now)) }
     ensures most { IfOk result (λ linting. IfSome linting (λ linting. 1 ≤ linting.most)) }
 {
     let others = other_words(alloc, words)?;

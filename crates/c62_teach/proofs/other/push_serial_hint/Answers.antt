@@ -1,4 +1,4 @@
-use Rattle.std.proofs.Common.{◌∷◌, [], rules}
+use Rattle.std.proofs.Common.{◌∷◌, []}
 use Rattle.c62_explain.proofs.HintLemmas.{adds_none, adds_one_on}
 use Rattle.c62_teach.proofs.other.push_serial_hint.Goals as goal
 
