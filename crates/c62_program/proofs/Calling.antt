@@ -1,6 +1,6 @@
 -- What a call does, from what each step of it did.
 use Rattle.std.proofs.Common.{◌≡◌, ℕ, ◌≤◌, Bool, true, false, List, [], ◌∷◌, length, Option, Some, None, refl, sym}
-use Rattle.std.proofs.Common.{subst, inl, inr, arith}
+use Rattle.std.proofs.Common.{subst, inl, arith}
 use Rattle.std.specs.Prelude.{map}
 use Rattle.std.specs.Borrow.{Bor}
 use Rattle.std.proofs.KnownBytes.{Keeps-refl}
@@ -13,7 +13,7 @@ use Rattle.c62_files.specs.declared.call.Call.{Call}
 use Rattle.c62_program.specs.declared.trouble.Trouble.{Trouble}
 use Rattle.c62_program.specs.declared.trouble.Trouble.TheVariants.{NoCall, NoLoad, Unread, Unwritten, LooseDump, Input}
 use Rattle.c62_program.specs.declared.trouble.Trouble.TheVariants.{Memory}
-use Rattle.c62_program.specs.Trouble.{HasCallTrouble, IsCountTrouble, IsTroubleWithCall, IsTroubleWithRun}
+use Rattle.c62_program.specs.Trouble.{HasCallTrouble, IsCountTrouble, IsTroubleWithRun}
 use Rattle.c62_program.specs.Trouble.{IsTroubleWithSource, IsTroubleWriting, Loose, Running, is_early}
 use Rattle.c62_program.specs.Program.{AreCountsFor, RunsCall, RunsDumping, RunsNaming, RunsTarget, RunsTo, RunsWords}
 use Rattle.c62_program.specs.Program.{is_made}

@@ -1,13 +1,12 @@
 -- What a run does that writes memory to files, from what each step of it did.
-use Rattle.std.proofs.Common.{◌≡◌, ◌≢◌, ◌∙◌, ℕ, Bool, true, false, List, [], ◌∷◌, length, Option, Some, None, Result}
+use Rattle.std.proofs.Common.{◌≡◌, ◌≢◌, ◌∙◌, ℕ, true, false, List, [], ◌∷◌, length, Option, Some, None, Result}
 use Rattle.std.proofs.Common.{Ok, Err, drop, refl, sym, ap, subst, inl, inr}
 use Rattle.std.specs.Prelude.{OnErr}
 use Rattle.std.specs.Option.{IsSomeAnd}
 use Rattle.std.specs.Borrow.{Bor}
-use Rattle.std.specs.Io.KnownBytes.{Keeps}
 use Rattle.std.proofs.KnownBytes.{Keeps-refl}
 use Rattle.clap.specs.Words.{Text}
-use Rattle.c62_answer.specs.Run.{Streams, streams}
+use Rattle.c62_answer.specs.Run.{streams}
 use Rattle.c62_command.specs.CommandLine.{Ask, asked}
 use Rattle.c62_dumping.specs.Counts.{counts_asked}
 use Rattle.c62_dumping.specs.Cut.{dumped_in, files_of, report_in}
@@ -21,7 +20,7 @@ use Rattle.c62_program.specs.declared.trouble.Trouble.TheVariants.{NoCall, NoLoa
 use Rattle.c62_program.specs.declared.trouble.Trouble.TheVariants.{Memory}
 use Rattle.c62_program.specs.Trouble.{IsAmong, IsLoose, IsTroubleDumping, IsTroubleWithCall, IsTroubleWithRun}
 use Rattle.c62_program.specs.Trouble.{IsTroubleWriting, IsTroubleWritingTo, is_early}
-use Rattle.c62_program.specs.Program.{AreCounts, AreCountsFor, AsksFor, HasBegun, IsDelivered, IsDumped, IsUndone}
+use Rattle.c62_program.specs.Program.{AreCounts, AreCountsFor, HasBegun, IsDelivered}
 use Rattle.c62_program.specs.Program.{RunsDumping, RunsWords, is_made}
 use Rattle.c62_program.proofs.Calling.{is_late, not_both}
 

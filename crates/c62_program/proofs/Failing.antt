@@ -21,7 +21,7 @@ use Rattle.c62_files.specs.declared.folder.FileError.TheVariants as failure
 use Rattle.c62_program.specs.declared.trouble.Trouble.{Trouble}
 use Rattle.c62_program.specs.declared.trouble.Trouble.TheVariants.{NoCall, NoLoad, Unread, Unwritten, LooseDump, Input}
 use Rattle.c62_program.specs.declared.trouble.Trouble.TheVariants.{Memory}
-use Rattle.c62_program.specs.Trouble.{Called, Expanding, HasCallTrouble, IsSaid, IsTroubleDumping, IsTroubleWithRun}
+use Rattle.c62_program.specs.Trouble.{Called, Expanding, HasCallTrouble, IsSaid, IsTroubleWithRun}
 use Rattle.c62_program.specs.Trouble.{IsTroubleWithSource, Loose, Mistaken, Running, Says, call_message, is_early}
 use Rattle.c62_program.specs.Trouble.{load_message, loose_message, of_reading, of_words, status_of}
 use Rattle.c62_program.specs.Program.{HasBegun, IsFailure}

@@ -2,7 +2,7 @@
 use Rattle.std.proofs.Common.{◌≡◌, ℕ, List, Option, Some, None, Result, Ok, Err, sym, refl, codes}
 use Rattle.std.specs.Io.KnownBytes.{Keeps}
 use Rattle.clap.specs.Words.{Text}
-use Rattle.c62_answer.specs.Message.{Tells, told_of}
+use Rattle.c62_answer.specs.Message.{told_of}
 use Rattle.c62_answer.proofs.WholeRuns.{told_tells}
 use Rattle.c62_explain.specs.Topic.{page_in}
 use Rattle.c62_program.specs.Written.{Broken, IsStatusBehind, IsWritten, Whole}

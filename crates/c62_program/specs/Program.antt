@@ -15,7 +15,7 @@ use Rattle.c62_dumping.specs.Cut.{dumped_in, files_of, report_in}
 use Rattle.c62_files.specs.Words.{dumps, text_piece, texts}
 use Rattle.c62_files.specs.Expand.{Expands, Holding}
 use Rattle.c62_files.specs.Writing.{AreBegun, AreWritten, IsReplaced}
-use Rattle.c62_files.specs.Call.{From, IsCall, IsMistake, Standard, File, Parts, is_standard, text_source}
+use Rattle.c62_files.specs.Call.{From, IsCall, Standard, File, Parts, is_standard, text_source}
 use Rattle.c62_files.specs.declared.call.Call.{Call}
 use Rattle.c62_teach.specs.declared.words.Linting.{Linting}
 use Rattle.c62_teach.specs.Words.{is_explained, is_lint, is_strict, is_watched, linting_of, plain_words}
@@ -31,7 +31,6 @@ use Rattle.c62_program.specs.Page.{page_asked, page_text}
 use Rattle.c62_program.specs.Trouble.{HasTrouble, IsSaid, status_of}
 use Rattle.c62_program.specs.declared.page.Page.{Page as Told}
 use Rattle.c62_program.specs.declared.trouble.Trouble.{Trouble}
-use Rattle.c62_program.specs.declared.trouble.Trouble.TheVariants.{NoCall}
 
 -- what a name stands for, where that is known: standard input or a file
 abbrev pub held : Holding → (input : Option (List ℕ)) → Text → Option (List ℕ)

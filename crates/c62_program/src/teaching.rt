@@ -79,7 +79,8 @@ pub fn run_lint<'a, H: AllocGlobal, F: Folder, R: Read, W: Write, E: Write>(
     ensures silent { IfErr result (λ _. Keeps (E.contents errors.old) (E.contents errors.new)) }
     ensures why { IfErr result (IsTroubleWithSource (text_source source.entry)) }
 {
-    let Some(linting) = linting_of(rt.alloc(), words)? else {
+    let wanted = linting_of(rt.alloc(), words)?;
+    let Some(linting) = wanted else {
         let _ = write_whole(errors, LINT.as_bytes());
         return Ok(2);
     };

@@ -1,4 +1,4 @@
-use Rattle.std.proofs.Common.{◌≡◌, None, map, rules, sym}
+use Rattle.std.proofs.Common.{◌≡◌, ◌∙◌, None, map, rules, sym}
 use Rattle.std.specs.Prelude.{string_bytes}
 use Rattle.c62_teach.specs.Words.{linting_of}
 use Rattle.c62_program.proofs.Taught.{lint_found, lint_refused}
@@ -14,5 +14,5 @@ returns-clause-ok g c =
     let found = c.in_ok-found.found in
     lint_found _ _ _ _ _ _ c.in-Some.linting c.in_ok-bytes.bytes.items found.lines.items found.faulty
     c.names_of.result.text.now c.names_of.ensures.text
-    (sym c.in-Some.ensures.is) c.in_ok-bytes.ensures.ok
+    (sym c.in_ok-wanted.ensures.is ∙ c.in-Some.is) c.in_ok-bytes.ensures.ok
     (rw c.as_bytes-2.ensures.value at (rw c.deref.ensures.value at c.in_ok-found.ensures)) c.print_lines.ensures
