@@ -246,7 +246,7 @@ const RUNS: [(&[&str], &[u8], &str, &str, u8); 31] = [
         ],
         b"",
         "",
-        "error: the argument '--blocks <N>' cannot be used multiple times\n\nUsage: c62 serial [--apart <REG,REG,..>] [--blocks <N>] [--profile] [--strict] [-o <FILE>] [FILE] [SETTING]...\n\nFor more information, try '--help'.\n",
+        "error: the argument '--blocks <N>' cannot be used multiple times\n\nUsage: c62 serial [--apart <REG,REG,..>] [--blocks <N>] [--profile] [--strict] [--json] [-o <FILE>] [FILE] [SETTING]...\n\nFor more information, try '--help'.\n",
         2,
     ),
 ];
@@ -632,6 +632,64 @@ const UNWRITTEN: [Written<'static>; 3] = [
     },
 ];
 
+/// Words that ask for a document on files of the shelf, and the output, what is told and the status.
+const DOCUMENTS: [(&[&str], &str, &str, u8); 9] = [
+    (
+        &["pack", "--json", "--turns", "first.s"],
+        "{\"c62\":\"0.10.0\",\"command\":\"pack\",\"blocks\":[{\"block\":0,\"label\":null,\"cycles\":1,\"packets\":[{\"cycle\":0,\"instructions\":[{\"line\":1,\"unit\":\".S1\",\"text\":\"MVK .S1 5,A1\"}]}]}]}\n",
+        "",
+        0,
+    ),
+    (
+        &["serial", "--json", "first.s", "A2=3"],
+        "{\"c62\":\"0.10.0\",\"command\":\"serial\",\"blocks\":1,\"exit\":{\"by\":\"end\"},\"registers\":{\"A0\":0,\"A1\":5,\"A2\":3,\"A3\":0,\"A4\":0,\"A5\":0,\"A6\":0,\"A7\":0,\"A8\":0,\"A9\":0,\"A10\":0,\"A11\":0,\"A12\":0,\"A13\":0,\"A14\":0,\"A15\":0,\"B0\":0,\"B1\":0,\"B2\":0,\"B3\":0,\"B4\":0,\"B5\":0,\"B6\":0,\"B7\":0,\"B8\":0,\"B9\":0,\"B10\":0,\"B11\":0,\"B12\":0,\"B13\":0,\"B14\":0,\"B15\":0},\"memory\":{},\"faults\":[],\"prints\":[],\"profile\":null}\n",
+        "",
+        0,
+    ),
+    (
+        &["exec", "first.lst", "--json", "@8=99", "print=8+1:bd"],
+        "{\"c62\":\"0.10.0\",\"command\":\"exec\",\"cycles\":1,\"exit\":{\"by\":\"end\"},\"registers\":{\"A0\":0,\"A1\":5,\"A2\":0,\"A3\":0,\"A4\":0,\"A5\":0,\"A6\":0,\"A7\":0,\"A8\":0,\"A9\":0,\"A10\":0,\"A11\":0,\"A12\":0,\"A13\":0,\"A14\":0,\"A15\":0,\"B0\":0,\"B1\":0,\"B2\":0,\"B3\":0,\"B4\":0,\"B5\":0,\"B6\":0,\"B7\":0,\"B8\":0,\"B9\":0,\"B10\":0,\"B11\":0,\"B12\":0,\"B13\":0,\"B14\":0,\"B15\":0},\"memory\":{\"0008\":\"63000000\"},\"faults\":[],\"prints\":[{\"address\":8,\"size\":1,\"value\":99}],\"profile\":null}\n",
+        "",
+        0,
+    ),
+    (
+        &["sim", "--json", "--strict", "fault.lst", "A4=1"],
+        "{\"c62\":\"0.10.0\",\"command\":\"sim\",\"blocks\":1,\"cycles\":5,\"exit\":{\"by\":\"end\"},\"registers\":{\"A0\":0,\"A1\":0,\"A2\":0,\"A3\":0,\"A4\":1,\"A5\":0,\"A6\":0,\"A7\":0,\"A8\":0,\"A9\":0,\"A10\":0,\"A11\":0,\"A12\":0,\"A13\":0,\"A14\":0,\"A15\":0,\"B0\":0,\"B1\":0,\"B2\":0,\"B3\":0,\"B4\":0,\"B5\":0,\"B6\":0,\"B7\":0,\"B8\":0,\"B9\":0,\"B10\":0,\"B11\":0,\"B12\":0,\"B13\":0,\"B14\":0,\"B15\":0},\"memory\":{},\"faults\":[1],\"prints\":[],\"profile\":null}\n",
+        "line 1: LDH reads 2 bytes at 0x1, no multiple of 2\n",
+        7,
+    ),
+    (
+        &["adopt", "--json", "--drain", "first.lst"],
+        "{\"c62\":\"0.10.0\",\"command\":\"adopt\",\"drained\":{\"cycles\":0,\"late\":null},\"blocks\":[{\"block\":0,\"label\":null,\"cycles\":1,\"packets\":[{\"cycle\":0,\"instructions\":[{\"line\":1,\"unit\":\".S1\",\"text\":\"MVK .S1 5,A1\"}]}]}]}\n",
+        "",
+        0,
+    ),
+    (
+        &["check", "--json", "first.s", "empty"],
+        "{\"c62\":\"0.10.0\",\"command\":\"check\",\"same\":false,\"other\":{\"block\":0,\"listed\":false,\"text\":null},\"blocks\":[]}\n",
+        "",
+        5,
+    ),
+    (
+        &["show", "--json", "--turns", "--summary", "first.s"],
+        "{\"c62\":\"0.10.0\",\"command\":\"show\",\"blocks\":[{\"block\":0,\"label\":null,\"cycles\":1,\"instructions\":1,\"bound\":1,\"path\":{\"cycles\":1,\"lines\":[1],\"steps\":[]},\"units\":null,\"packets\":[],\"landings\":[],\"causes\":[],\"registers\":null}]}\n",
+        "",
+        0,
+    ),
+    (
+        &["lint", "first.s", "--json"],
+        "{\"c62\":\"0.10.0\",\"command\":\"lint\",\"faults\":[]}\n",
+        "",
+        0,
+    ),
+    (
+        &["pack", "--json", "bad.s"],
+        "",
+        "line 2: UnknownMnemonic\n",
+        1,
+    ),
+];
+
 const OLD: &str = "what it was";
 
 fn filled_shelf(alloc: Global, is_full: bool) -> Result<Shelf, AllocError> {
@@ -702,6 +760,15 @@ fn files_that_are_written(rt: HostRuntime) -> Result<(), Fail> {
     }
     for row in &UNWRITTEN {
         writes(&rt, row, true)?;
+    }
+    Ok(())
+}
+
+#[test]
+fn answers_as_documents(rt: HostRuntime) -> Result<(), Fail> {
+    let mut shelf = filled_shelf(rt.alloc(), false)?;
+    for (words, output, errors, status) in &DOCUMENTS {
+        runs(&rt, &mut shelf, words, b"", (*output, *errors, *status));
     }
     Ok(())
 }

@@ -198,8 +198,8 @@ fault is; --explain behind a command says what is wrong with its text.
         &["pack", "--help"],
         "Reads serial text and writes its listing
 
-Usage: c62 pack [--turns] [--eject <N>] [--shortest] [--search <N>] [-o <FILE>] [FILE]
-       c62 pack --pipeline [--trips <L=N>]... [--apart <REG,REG,..>] [--verbose] [-o <FILE>] [FILE]
+Usage: c62 pack [--turns] [--eject <N>] [--shortest] [--search <N>] [--json] [-o <FILE>] [FILE]
+       c62 pack --pipeline [--trips <L=N>]... [--apart <REG,REG,..>] [--verbose] [--json] [-o <FILE>] [FILE]
 
 Options:
       --turns               Packs on one thread, one side after the other
@@ -210,6 +210,7 @@ Options:
       --trips <L=N>         A promise: the loop of label L is entered with at least N trips
       --apart <REG,REG,..>  A promise: accesses from two of these registers never touch one byte in two iterations
       --verbose             With --pipeline: tells of each loop how it is pipelined, or why it isn't
+      --json                Writes the same as a JSON document
   -h, --help                Print help
 ",
         "c62 pack --pipeline --trips LOOP=8 kernel.s",
@@ -218,9 +219,9 @@ Options:
         &["show", "--help"],
         "Packs serial text and shows each block's schedule, and how short one can be
 
-Usage: c62 show [--why] [--registers] [--summary] [--turns] [--eject <N>] [--shortest] [--search <N>] [-o <FILE>] [FILE]
-       c62 show --pipeline [--trips <L=N>]... [--apart <REG,REG,..>] [-o <FILE>] [FILE]
-       c62 show --listing|--packets [--why] [--registers] [--summary] [-o <FILE>] [FILE]
+Usage: c62 show [--why] [--registers] [--summary] [--turns] [--eject <N>] [--shortest] [--search <N>] [--json] [-o <FILE>] [FILE]
+       c62 show --pipeline [--trips <L=N>]... [--apart <REG,REG,..>] [--json] [-o <FILE>] [FILE]
+       c62 show --listing|--packets [--why] [--registers] [--summary] [--json] [-o <FILE>] [FILE]
 
 Options:
       --turns               Packs on one thread, one side after the other
@@ -235,6 +236,7 @@ Options:
       --why                 Tells why each instruction isn't issued a cycle earlier, and its slack
       --registers           Tells how many registers of each side are live at most, and which are free
       --summary             Shows of each block its length alone, and how short one can be
+      --json                Writes the same as a JSON document
   -h, --help                Print help
 ",
         "c62 show --why kernel.s",
@@ -243,8 +245,8 @@ Options:
         &["run", "--help"],
         "Packs serial text, runs the packets and reports the end
 
-Usage: c62 run [--turns] [--eject <N>] [--shortest] [--search <N>] [--blocks <N>] [--profile] [--strict] [-o <FILE>] [FILE] [SETTING]...
-       c62 run --pipeline [--trips <L=N>]... [--apart <REG,REG,..>] [--verbose] [--cycles <N>] [--profile] [--strict] [-o <FILE>] [FILE] [SETTING]...
+Usage: c62 run [--turns] [--eject <N>] [--shortest] [--search <N>] [--blocks <N>] [--profile] [--strict] [--json] [-o <FILE>] [FILE] [SETTING]...
+       c62 run --pipeline [--trips <L=N>]... [--apart <REG,REG,..>] [--verbose] [--cycles <N>] [--profile] [--strict] [--json] [-o <FILE>] [FILE] [SETTING]...
 
 Arguments:
   [SETTING]...  REG=NUMBER sets a register, @ADDRESS=NUMBER,.. words of memory; with :h or :b halves or bytes
@@ -262,6 +264,7 @@ Options:
       --blocks <N>          Runs at most N blocks, 1 to 1000000; 1000 where none is given
       --profile             Adds a table of how often each block was run, and what it took
       --strict              Ends with status 7 where an access faults, and else with 6 at the limit
+      --json                Writes the same as a JSON document
   -h, --help                Print help
 ",
         "c62 run kernel.s A4=8 @8=99",
@@ -270,7 +273,7 @@ Options:
         &["serial", "-h"],
         "Runs serial text, one instruction after the other, and reports the end
 
-Usage: c62 serial [--apart <REG,REG,..>] [--blocks <N>] [--profile] [--strict] [-o <FILE>] [FILE] [SETTING]...
+Usage: c62 serial [--apart <REG,REG,..>] [--blocks <N>] [--profile] [--strict] [--json] [-o <FILE>] [FILE] [SETTING]...
 
 Arguments:
   [SETTING]...  REG=NUMBER sets a register, @ADDRESS=NUMBER,.. words of memory; with :h or :b halves or bytes
@@ -280,6 +283,7 @@ Options:
       --blocks <N>          Runs at most N blocks, 1 to 1000000; 1000 where none is given
       --profile             Adds a table of how often each block was run, and what it took
       --strict              Ends with status 7 where an access faults, and else with 6 at the limit
+      --json                Writes the same as a JSON document
   -h, --help                Print help
 ",
         "c62 serial kernel.s A4=8 @8=99",
@@ -288,7 +292,7 @@ Options:
         &["sim", "-h"],
         "Reads a listing, runs its packets and reports the end
 
-Usage: c62 sim [--packets] [--blocks <N>] [--profile] [--strict] [-o <FILE>] [FILE] [SETTING]...
+Usage: c62 sim [--packets] [--blocks <N>] [--profile] [--strict] [--json] [-o <FILE>] [FILE] [SETTING]...
 
 Arguments:
   [SETTING]...  REG=NUMBER sets a register, @ADDRESS=NUMBER,.. words of memory; with :h or :b halves or bytes
@@ -298,6 +302,7 @@ Options:
       --blocks <N>  Runs at most N blocks, 1 to 1000000; 1000 where none is given
       --profile     Adds a table of how often each block was run, and what it took
       --strict      Ends with status 7 where an access faults, and else with 6 at the limit
+      --json        Writes the same as a JSON document
   -h, --help        Print help
 ",
         "c62 sim kernel.lst A4=8 @8=99",
@@ -306,11 +311,12 @@ Options:
         &["adopt", "-h"],
         "Reads packets as they are written for an assembler and writes their listing
 
-Usage: c62 adopt [--from <NAME>] [--drain] [-o <FILE>] [FILE]
+Usage: c62 adopt [--from <NAME>] [--drain] [--json] [-o <FILE>] [FILE]
 
 Options:
       --from <NAME>  Takes of the text only what this label reaches; the whole text where none is given
       --drain        Adds the NOPs that lack before labels and at the end, says how many cycles, and what they may change
+      --json         Writes the same as a JSON document
   -h, --help         Print help
 ",
         "c62 adopt hand.asm --drain  (4 cycles added; A5 was read below line 2 before it landed)",
@@ -319,15 +325,16 @@ Options:
         &["check", "-h"],
         "Reads serial text, a line `---` and a listing, and compares their blocks
 
-Usage: c62 check [--packets] [-o <FILE>] <TEXT> <LISTING>
-       c62 check [--packets] [-o <FILE>] [FILE]  (both in one, with a line `---` between them)
-       c62 check --loops [--trips <L=N>]... [--apart <REG,REG,..>] [-o <FILE>] <TEXT> <PACKETS>
+Usage: c62 check [--packets] [--json] [-o <FILE>] <TEXT> <LISTING>
+       c62 check [--packets] [--json] [-o <FILE>] [FILE]  (both in one, with a line `---` between them)
+       c62 check --loops [--trips <L=N>]... [--apart <REG,REG,..>] [--json] [-o <FILE>] <TEXT> <PACKETS>
 
 Options:
       --packets             Reads packets as they are written in place of a listing
       --loops               Reads packets in flight, and tells whether they do what the text's loops do
       --trips <L=N>         A promise: the loop of label L is entered with at least N trips
       --apart <REG,REG,..>  A promise: accesses from two of these registers never touch one byte in two iterations
+      --json                Writes the same as a JSON document
   -h, --help                Print help
 ",
         "c62 check kernel.s hand.lst",
