@@ -1,4 +1,3 @@
 pub mod Alike
-pub mod Documents
 pub mod Others
 pub mod Verdicts

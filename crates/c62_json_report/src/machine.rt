@@ -1,6 +1,6 @@
 //! What the machine holds at the end of a run (docs/JSON.md, "The machine").
 
-ghost use Rattle.std.specs.Prelude.{◌≡◌, ◌==◌, ◌++◌, ◌+◌, ◌*◌, ◌<◌, ◌≤◌, ◌∷◌, [], if◌then◌else◌, OnOk, map};
+ghost use Rattle.std.specs.Prelude.{◌≡◌, ◌++◌, ◌+◌, ◌*◌, ◌<◌, ◌≤◌, ◌∷◌, [], OnOk, map};
 ghost use Rattle.json.specs.Token.{key, string};
 ghost use Rattle.c62_serial.specs.State.{byte_in};
 ghost use Rattle.c62_serial.specs.Memory.{bytes_from};
@@ -9,9 +9,10 @@ ghost use Rattle.c62_json.specs.Document.{Adds, count};
 ghost use Rattle.c62_json_report.specs.Machine.{digits, faults, file, machine_members, memory, register, registers, word, words};
 
 use crate::brackets::{close_array, close_object, open_array, open_object};
-use crate::words::{push_hex, register_name};
+use crate::words::register_name;
 use c62_insn::{Reg, Side};
 use c62_json::{push_count, push_key, push_name, push_text};
+use c62_report::push_hex;
 use c62_serial::{MEMORY_BYTES, State};
 use json::Writer;
 use std::alloc::{AllocError, Global};
@@ -50,20 +51,13 @@ fn push_registers(alloc: Global, out: &mut Writer, state: &State) -> Result<(), 
     Ok(())
 }
 
-/// How many digits the addresses of memory have that begins there.
-fn address_digits(base: u32) -> u8
-    ensures { result ≡ (if base == 0 then 4 else 8) }
-{
-    if base == 0 { 4 } else { 8 }
-}
-
 /// The address of a place in memory that begins at a base, as the name of a member.
 #[tactic(auto, using(crate::proofs::Ascii::address_stands))]
 fn push_address(alloc: Global, out: &mut Writer, base: u32, place: u32) -> Result<(), AllocError>
     ensures { Adds result out.old out.new (key (address_text base place) ∷ []) }
 {
     let mut name = Vec::new(alloc);
-    push_hex(&mut name, address_digits(base), base.wrapping_add(place))?;
+    c62_report::push_address(&mut name, base, place)?;
     push_key(alloc, out, &name)
 }
 

@@ -4,15 +4,15 @@ ghost use Rattle.std.specs.Prelude.{◌≡◌, map, codes};
 ghost use Rattle.std.specs.List.{flat_map};
 ghost use Rattle.c62_json.specs.Document.{Adds, count};
 ghost use Rattle.c62_json_packets.specs.Member.{array_member, object_member};
-ghost use Rattle.c62_show.specs.Head.{is_told};
 ghost use Rattle.c62_json_show.specs.Limits.{step_members, step, path_told, need_members, units_member, known_members, unknown_members, limits_members};
 
-use crate::words::{room_name, shared_words};
+use crate::words::shared_words;
 use c62_bound::Need;
 use c62_json::push_count;
 use c62_json_packets::member::{
     begin_array, begin_object, push_null, push_number, push_signed, push_string,
 };
+use c62_show::words::{is_told, room_name};
 use c62_show::{Limits, Step};
 use json::Writer;
 use std::alloc::{AllocError, Global};
@@ -108,13 +108,6 @@ fn push_need(out: &mut Writer, need: Need) -> Result<(), AllocError>
     begin_object(out, "units")?;
     push_need_members(out, need)?;
     out.end_object()
-}
-
-/// Whether a need has more instructions than find room in one cycle.
-fn is_told(need: Need) -> bool
-    ensures { result ≡ is_told need }
-{
-    need.kind.width() < need.count
 }
 
 /// Writes the member of the greatest need, where it is told.

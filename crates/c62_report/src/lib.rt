@@ -7,4 +7,4 @@ mod report;
 
 pub use flight::flight_report;
 pub use print::push_print;
-pub use report::{packet_report, serial_report};
+pub use report::{packet_report, push_address, push_hex, serial_report};

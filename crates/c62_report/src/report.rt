@@ -24,9 +24,13 @@ fn hex_digit(digit: u8) -> u8
     }
 }
 
-/// So many low hexadecimal digits of a value.
+/// Adds so many low hexadecimal digits of a value, in lower case.
+///
+/// # Errors
+///
+/// `AllocError` where memory ran out.
 #[tactic(auto, unfolding(crate::specs::Report::hex))]
-pub(crate) fn push_hex(out: &mut Vec<u8>, digits: u8, value: u32) -> Result<(), AllocError>
+pub fn push_hex(out: &mut Vec<u8>, digits: u8, value: u32) -> Result<(), AllocError>
     ensures { OnOk result (out.new.items ≡ out.old.items ++ hex digits value) }
 {
     if digits == 0 {
@@ -100,8 +104,12 @@ fn address_digits(base: u32) -> u8
     if base == 0 { 4 } else { 8 }
 }
 
-/// The address of a place in memory that begins at a base.
-pub(crate) fn push_address(out: &mut Vec<u8>, base: u32, place: u32) -> Result<(), AllocError>
+/// Adds the address of a place in memory that begins at a base: four digits where that is 0, and else eight.
+///
+/// # Errors
+///
+/// `AllocError` where memory ran out.
+pub fn push_address(out: &mut Vec<u8>, base: u32, place: u32) -> Result<(), AllocError>
     ensures { OnOk result (out.new.items ≡ out.old.items ++ address_text base place) }
 {
     push_hex(out, address_digits(base), base.wrapping_add(place))

@@ -4,17 +4,14 @@ ghost use Rattle.std.specs.Prelude.{◌≡◌, ◌++◌, OnOk, IfOk, codes, deci
 ghost use Rattle.std.specs.List.{flat_map};
 ghost use Rattle.std.specs.Option.{option_copied};
 ghost use Rattle.c62_listing.specs.Written.{AddsText};
-ghost use Rattle.c62_show.specs.Head.{name, over_bound, verdict_by, verdict, size, fact, lines_word, path_words, shared_words, step_words, bound_words, line_at, path_ends, listed_fact, path_fact, path_line, room_name, need_words, is_told, units_line};
+ghost use Rattle.c62_show.specs.Head.{name, over_bound, verdict_by, verdict, size, fact, lines_word, path_words, step_words, bound_words, line_at, path_ends, listed_fact, path_fact, path_line, need_words, is_told, units_line};
 
 use crate::limits::{Limits, Step};
-use c62_bound::{Kind, Need};
-use c62_grid::words::{
-    push_counted, push_left, push_number, push_register, push_right_number, push_signed,
-};
-use c62_insn::Side;
+use crate::words::{is_told, push_shared, room_name};
+use c62_bound::Need;
+use c62_grid::words::{push_counted, push_left, push_number, push_right_number, push_signed};
 use c62_listing::label_text;
 use c62_read::Label;
-use c62_reason::Reason;
 use std::alloc::{AllocError, Global};
 
 /// The most columns of a line that names all lines of a path.
@@ -125,19 +122,6 @@ fn lines_word(path: &[u32]) -> &'static str
     if path.len() == 1 { "line" } else { "lines" }
 }
 
-/// What two instructions share, for which the second waits.
-fn push_shared(out: &mut String, reason: Reason) -> Result<(), AllocError>
-    ensures { OnOk result (AddsText out.old (shared_words reason) out.new) }
-{
-    match reason {
-        Reason::Reads(reg) => push_register(out, reg),
-        Reason::Overwrites(reg) => push_register(out, reg),
-        Reason::Writes(reg) => push_register(out, reg),
-        Reason::AccessesMemory | Reason::StoresMemory => out.push_str("mem"),
-        Reason::Branches => out.push_str("branch"),
-    }
-}
-
 /// A step of a path: what it waits for, for how many cycles, and its line.
 #[tactic(auto, unfolding(crate::specs::Head::step_words))]
 fn push_step(out: &mut String, step: &Step) -> Result<(), AllocError>
@@ -244,28 +228,6 @@ pub(crate) fn push_path(alloc: Global, out: &mut String, limits: &Limits) -> Res
     out.push_str("\n")
 }
 
-/// What instructions wait for.
-fn room_name(kind: Kind, side: Side) -> &'static str
-    ensures { result.now ≡ room_name kind side }
-{
-    match (kind, side) {
-        (Kind::L, Side::A) => ".L1",
-        (Kind::L, Side::B) => ".L2",
-        (Kind::S, Side::A) => ".S1",
-        (Kind::S, Side::B) => ".S2",
-        (Kind::M, Side::A) => ".M1",
-        (Kind::M, Side::B) => ".M2",
-        (Kind::D, Side::A) => ".D1",
-        (Kind::D, Side::B) => ".D2",
-        (Kind::Ls, Side::A) => ".L1 .S1",
-        (Kind::Ls, Side::B) => ".L2 .S2",
-        (Kind::Lsd, Side::A) => ".L1 .S1 .D1",
-        (Kind::Lsd, Side::B) => ".L2 .S2 .D2",
-        (Kind::Path, Side::A) => "T1",
-        (Kind::Path, Side::B) => "T2",
-    }
-}
-
 /// How many instructions wait for what, and what follows behind them.
 #[tactic(auto, unfolding(crate::specs::Head::need_words))]
 fn need_words(alloc: Global, need: Need) -> Result<String, AllocError>
@@ -279,13 +241,6 @@ fn need_words(alloc: Global, need: Need) -> Result<String, AllocError>
     push_number(&mut text, u64::from(need.tail))?;
     text.push_str(" behind the last")?;
     Ok(text)
-}
-
-/// Whether a need has more instructions than find room in one cycle.
-fn is_told(need: Need) -> bool
-    ensures { result ≡ is_told need }
-{
-    need.kind.width() < need.count
 }
 
 /// The line of the greatest need, where it is told.

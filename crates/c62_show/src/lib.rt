@@ -8,6 +8,7 @@ mod limits;
 mod registers;
 mod shown;
 mod whys;
+pub mod words;
 
 pub use alone::summary;
 pub use limits::{Limits, Step, limits_of, limits_with};

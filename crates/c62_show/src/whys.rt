@@ -1,44 +1,17 @@
 //! The table of why each instruction isn't issued a cycle earlier.
 
-ghost use Rattle.std.specs.Prelude.{◌++◌, OnOk};
+ghost use Rattle.std.specs.Prelude.{OnOk};
 ghost use Rattle.std.specs.List.{flat_map};
-ghost use Rattle.c62_op.specs.Name.{register_name};
 ghost use Rattle.c62_listing.specs.Written.{AddsText};
-ghost use Rattle.c62_reason.specs.Words.{reason_words};
-ghost use Rattle.c62_show.specs.Whys.{resource_words, held_words, taken_words, cause_words, why_columns, why_row, whole_table, whys_table};
+ghost use Rattle.c62_show.specs.Whys.{held_words, taken_words, cause_words, why_columns, why_row, whole_table, whys_table};
 
-use c62_grid::path_name;
-use c62_grid::words::{push_number, push_register, push_right_number, push_signed, unit_name};
-use c62_insn::Reg;
-use c62_reason::Reason;
-use c62_rules::Resource;
+use crate::words::{push_reason, push_resource};
+use c62_grid::words::{push_number, push_right_number, push_signed};
 use c62_why::{Cause, Held, Taken, Why};
 use std::alloc::AllocError;
 
 /// How wide each of the columns of numbers is.
 const NUMBER_WIDTH: usize = 6;
-
-/// A word, and the name of a register behind it.
-fn push_about(out: &mut String, word: &str, reg: Reg) -> Result<(), AllocError>
-    ensures { OnOk result (AddsText out.old (word.now ++ register_name reg) out.new) }
-{
-    out.push_str(word)?;
-    push_register(out, reg)
-}
-
-#[tactic(auto, unfolding(c62_reason::specs::Words::reason_words))]
-fn push_reason(out: &mut String, reason: Reason) -> Result<(), AllocError>
-    ensures { OnOk result (AddsText out.old (reason_words reason) out.new) }
-{
-    match reason {
-        Reason::Reads(reg) => push_about(out, "reads ", reg),
-        Reason::Overwrites(reg) => push_about(out, "overwrites ", reg),
-        Reason::Writes(reg) => push_about(out, "writes ", reg),
-        Reason::AccessesMemory => out.push_str("accesses memory"),
-        Reason::StoresMemory => out.push_str("stores memory"),
-        Reason::Branches => out.push_str("branches -"),
-    }
-}
 
 /// The dependence that an instruction would break.
 #[tactic(auto, unfolding(crate::specs::Whys::held_words))]
@@ -51,17 +24,6 @@ fn push_held(out: &mut String, held: &Held) -> Result<(), AllocError>
     push_signed(out, held.needs)?;
     out.push_str(" ")?;
     push_reason(out, held.reason)
-}
-
-/// What there is too little of.
-fn push_resource(out: &mut String, resource: Resource) -> Result<(), AllocError>
-    ensures { OnOk result (AddsText out.old (resource_words resource) out.new) }
-{
-    match resource {
-        Resource::OnUnit(unit) => out.push_str(unit_name(unit)),
-        Resource::CrossPath(_) | Resource::DataPath(_) => out.push_str(path_name(resource)),
-        Resource::ReadsOf(reg) => push_about(out, "reads of ", reg),
-    }
 }
 
 /// What others have taken.

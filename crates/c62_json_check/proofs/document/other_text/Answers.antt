@@ -1,7 +1,7 @@
 use Rattle.std.proofs.Common.{◌∙◌}
 use Rattle.std.specs.Prelude.{codes}
 use Rattle.std.proofs.lemmas.Result.{IfOk-weaker}
-use Rattle.c62_json_check.proofs.Documents.{written}
+use Rattle.c62_json.proofs.Documents.{written}
 use Rattle.c62_json_check.proofs.document.other_text.Goals as goal
 
 pub returns : goal.returns
