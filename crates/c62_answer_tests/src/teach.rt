@@ -28,7 +28,10 @@ fn is_same(found: Option<Linting>, want: Option<(Kind, usize, bool)>) -> bool {
 const ROWS: [(&[&str], Option<(Kind, usize, bool)>); 12] = [
     (&["lint"], Some((Kind::Serial, 100, false))),
     (&["lint", "--most", "1"], Some((Kind::Serial, 1, false))),
-    (&["lint", "--most", "1000"], Some((Kind::Serial, 1000, false))),
+    (
+        &["lint", "--most", "1000"],
+        Some((Kind::Serial, 1000, false)),
+    ),
     (&["lint", "--most", "1001"], None),
     (&["lint", "--most", "0"], None),
     (
