@@ -2,7 +2,6 @@ pub mod Machine
 pub mod Exit
 pub mod Prints
 pub mod Profile
-pub mod Flights
 pub mod Runs
 pub mod Alike
 pub mod AlikeRows

@@ -1,91 +1,20 @@
 //! How often the rows of a text were begun that is run with everything in flight, and what they took (docs/JSON.md, "The profile").
 
-ghost use Rattle.std.specs.Prelude.{◌≡◌, ◌∷◌, ◌-◌, ◌<◌, ◌≤◌, ◌^◌, [], take, drop};
+ghost use Rattle.std.specs.Prelude.{◌≡◌, ◌∷◌, ◌≤◌, []};
 ghost use Rattle.std.specs.List.{flat_map};
 ghost use Rattle.std.specs.Option.{option_copied};
-ghost use Rattle.c62_profile.specs.Flights.{counts_in, cycles_of, flight_blocks, is_told, runs_of};
+ghost use Rattle.c62_profile.specs.Flights.{block_of, cycles_of, flight_blocks};
 ghost use Rattle.c62_json.specs.Document.{Adds};
-ghost use Rattle.c62_json_report.specs.Flights.{block_of};
 ghost use Rattle.c62_json_report.specs.Profile.{block_row, end_told, flight_blocks_told, flight_rows, label, rows_named, told, told_row};
 
 use crate::brackets::{close_array, close_object, open_array, open_object, push_number};
-use crate::profile::thousandths;
 use c62_exec::Count;
 use c62_json::{push_missing, push_name, push_text};
+use c62_profile::{Block, counts_in, cycles_of, from_place, is_told, runs_of, thousandths};
 use c62_rows::Key;
 use indexmap::IndexMap;
 use json::Writer;
 use std::alloc::{AllocError, Global};
-
-/// The rows from one to the one above another.
-#[derive(Drop)]
-struct Block<'a> {
-    /// The label of the first, if it has one.
-    label: Option<&'a Key>,
-    first: usize,
-    behind: usize,
-}
-
-/// How often the first of these rows was begun.
-fn runs_of(counts: &[Count]) -> u64
-    ensures { result ≡ runs_of counts.now }
-{
-    match counts {
-        [] => 0,
-        [count, ..] => count.runs,
-    }
-}
-
-/// How many cycles were those of these rows.
-fn cycles_of(counts: &[Count]) -> u64
-    requires { cycles_of counts.now < 2 ^ 64 }
-    ensures { result ≡ cycles_of counts.now }
-{
-    let mut sum = 0;
-    for count in counts {
-        sum += count.cycles;
-    }
-    sum
-}
-
-/// The counts from a place on.
-fn from_place(counts: &[Count], place: usize) -> &[Count]
-    ensures { result.now ≡ drop place counts.now }
-{
-    if place < counts.len() {
-        &counts[place..]
-    } else {
-        &[]
-    }
-}
-
-/// At most so many of the counts.
-fn at_most(counts: &[Count], most: usize) -> &[Count]
-    ensures { result.now ≡ take most counts.now }
-{
-    if most < counts.len() {
-        &counts[..most]
-    } else {
-        counts
-    }
-}
-
-/// The counts of a block's rows.
-fn counts_in<'a>(counts: &'a [Count], block: &Block<'_>) -> &'a [Count]
-    ensures { result.now ≡ counts_in counts.now (block_of block.now) }
-{
-    at_most(
-        from_place(counts, block.first),
-        block.behind.saturating_sub(block.first),
-    )
-}
-
-/// Whether a block is told: what is above the first label is where it has a row.
-fn is_told(block: &Block<'_>) -> bool
-    ensures { result ≡ is_told (block_of block.now) }
-{
-    block.label.is_some() || block.first < block.behind
-}
 
 /// The label of a row, where it has one.
 fn push_label(alloc: Global, out: &mut Writer, name: Option<&Key>) -> Result<(), AllocError>

@@ -4,38 +4,16 @@ ghost use Rattle.std.specs.Prelude.{◌≡◌, ◌∷◌, [], IsTrue};
 ghost use Rattle.std.specs.List.{flat_map};
 ghost use Rattle.c62_serial.specs.Memory.{is_size};
 ghost use Rattle.c62_command.specs.Settings.{bytes_in};
-ghost use Rattle.c62_report.specs.Print.{signed_value, value_at};
 ghost use Rattle.c62_json.specs.Document.{Adds};
 ghost use Rattle.c62_json_report.specs.Prints.{placed, printed, prints, value, value_of, values};
 
 use crate::brackets::{close_array, close_object, open_array, open_object, push_number};
 use c62_command::{Print, Setting};
 use c62_json::{push_count, push_name, push_signed};
+use c62_report::{signed_value, value_at};
 use c62_serial::State;
 use json::Writer;
 use std::alloc::AllocError;
-
-/// The value of so many bytes at a place.
-fn value_at(state: &State, place: u32, size: u8) -> u32
-    requires { IsTrue (is_size size) }
-    ensures { result ≡ value_at state.now.machine place size }
-{
-    match state.load_at(place, size) {
-        Some(value) => value,
-        None => 0,
-    }
-}
-
-/// The low bytes of a value, so many of them, as a signed number.
-fn signed_value(size: u8, value: u32) -> i32
-    ensures { result ≡ signed_value size value }
-{
-    match size {
-        1 => i32::from(((value & 0xff) as u8).cast_signed()),
-        2 => i32::from(((value & 0xffff) as u16).cast_signed()),
-        _ => value.cast_signed(),
-    }
-}
 
 /// The low bytes of a value, so many of them, with their sign or without one.
 fn push_value_of(out: &mut Writer, size: u8, signed: bool, value: u32) -> Result<(), AllocError>

@@ -3,14 +3,13 @@
 ghost use Rattle.std.specs.Prelude.{◌≡◌, ◌∷◌, ◌<◌, ◌≤◌, [], length};
 ghost use Rattle.std.specs.List.{flat_map, range_with_len};
 ghost use Rattle.std.specs.Option.{option_copied};
-ghost use Rattle.c62_profile.specs.Table.{thousandths};
 ghost use Rattle.c62_json.specs.Document.{Adds};
 ghost use Rattle.c62_json_report.specs.Profile.{block_named, label, packet_row, packet_rows, ran, row, serial_row, serial_rows};
 
 use crate::brackets::{close_array, close_object, open_array, open_object, push_number};
 use c62_json::{push_missing, push_name, push_text};
 use c62_packet::{PacketBlock, Packets};
-use c62_profile::Tally;
+use c62_profile::{Tally, thousandths};
 use c62_read::{Block, Label, Program};
 use json::Writer;
 use std::alloc::{AllocError, Global};
@@ -34,15 +33,6 @@ fn push_label(alloc: Global, out: &mut Writer, name: Option<&Label>) -> Result<(
         Some(name) => push_text(alloc, out, name.as_bytes()),
         None => push_missing(out),
     }
-}
-
-/// How many thousandths of the whole a part is, rounded down.
-#[tactic(auto, unfolding(c62_profile::specs::Table::thousandths))]
-pub(crate) fn thousandths(part: u64, whole: u64) -> u64
-    requires { part ≤ 1_000_000_000_000_000 }
-    ensures { result ≡ thousandths part whole }
-{
-    if whole == 0 { 0 } else { part * 1000 / whole }
 }
 
 /// Which block it is.

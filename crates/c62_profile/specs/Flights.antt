@@ -9,7 +9,7 @@ use Rattle.c62_flight.specs.Text.{Text}
 use Rattle.c62_rows.specs.Laws.{RiseTo}
 use Rattle.c62_exec.specs.declared.tally.Count.{Count}
 use Rattle.c62_exec.specs.Counts.{CountsFlight}
-use Rattle.c62_profile.specs.declared.flights.Block.{Block as BlockRead}
+use Rattle.c62_profile.specs.declared.blocks.Block.{Block as BlockRead}
 use Rattle.c62_profile.specs.Table.{name, percent, thousandths}
 
 -- ---- blocks of rows

@@ -1,85 +1,16 @@
 //! The table of a run of a text of packets with everything in flight.
 
-ghost use Rattle.std.specs.Prelude.{◌≡◌, ◌++◌, ◌-◌, ◌<◌, ◌≤◌, ◌^◌, OnOk, codes, take, drop};
+ghost use Rattle.std.specs.Prelude.{◌≡◌, ◌++◌, ◌≤◌, OnOk};
 ghost use Rattle.std.specs.Option.{option_copied};
-ghost use Rattle.c62_profile.specs.Flights.{block_of, counts_in, cycles_of, end_row, flight_table, is_told, rows_in, runs_of, told_counts, told_row};
+ghost use Rattle.c62_profile.specs.Flights.{block_of, cycles_of, end_row, flight_table, told_counts, told_row};
 ghost use Rattle.c62_profile.specs.Table.{name};
 
+use crate::blocks::{Block, counts_in, cycles_of, from_place, is_told, runs_of};
 use crate::table::{push_field, push_number, push_percent, thousandths};
 use c62_exec::Count;
 use c62_rows::Key;
 use indexmap::IndexMap;
 use std::alloc::AllocError;
-
-/// The rows from one to the one above another.
-#[derive(Drop)]
-struct Block<'a> {
-    /// The label of the first, if it has one.
-    label: Option<&'a Key>,
-    first: usize,
-    behind: usize,
-}
-
-/// How often the first of these rows was begun.
-fn runs_of(counts: &[Count]) -> u64
-    ensures { result ≡ runs_of counts.now }
-{
-    match counts {
-        [] => 0,
-        [count, ..] => count.runs,
-    }
-}
-
-/// How many cycles were those of these rows.
-fn cycles_of(counts: &[Count]) -> u64
-    requires { cycles_of counts.now < 2 ^ 64 }
-    ensures { result ≡ cycles_of counts.now }
-{
-    let mut sum = 0;
-    for count in counts {
-        sum += count.cycles;
-    }
-    sum
-}
-
-/// The counts from a place on.
-fn from_place(counts: &[Count], place: usize) -> &[Count]
-    ensures { result.now ≡ drop place counts.now }
-{
-    if place < counts.len() {
-        &counts[place..]
-    } else {
-        &[]
-    }
-}
-
-/// At most so many of the counts.
-fn at_most(counts: &[Count], most: usize) -> &[Count]
-    ensures { result.now ≡ take most counts.now }
-{
-    if most < counts.len() {
-        &counts[..most]
-    } else {
-        counts
-    }
-}
-
-/// The counts of a block's rows.
-fn counts_in<'a>(counts: &'a [Count], block: &Block<'_>) -> &'a [Count]
-    ensures { result.now ≡ counts_in counts.now (block_of block.now) }
-{
-    at_most(
-        from_place(counts, block.first),
-        block.behind.saturating_sub(block.first),
-    )
-}
-
-/// Whether a block is told: what is above the first label is where it has a row.
-fn is_told(block: &Block<'_>) -> bool
-    ensures { result ≡ is_told (block_of block.now) }
-{
-    block.label.is_some() || block.first < block.behind
-}
 
 /// The label of a block, or the number of its first row.
 fn push_name(out: &mut Vec<u8>, block: &Block<'_>) -> Result<(), AllocError>

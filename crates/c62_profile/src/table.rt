@@ -45,7 +45,7 @@ fn push_name(out: &mut Vec<u8>, number: usize, label: Option<&Label>) -> Result<
 
 /// How many thousandths of the whole a part is, rounded down.
 #[tactic(auto, unfolding(crate::specs::Table::thousandths))]
-pub(crate) fn thousandths(part: u64, whole: u64) -> u64
+pub fn thousandths(part: u64, whole: u64) -> u64
     requires { part ≤ 1_000_000_000_000_000 }
     ensures { result ≡ thousandths part whole }
 {

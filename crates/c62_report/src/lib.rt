@@ -6,5 +6,5 @@ mod print;
 mod report;
 
 pub use flight::flight_report;
-pub use print::push_print;
+pub use print::{push_print, signed_value, value_at};
 pub use report::{packet_report, push_address, push_hex, serial_report};

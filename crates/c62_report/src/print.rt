@@ -12,7 +12,7 @@ use itoa::Buffer;
 use std::alloc::AllocError;
 
 /// The value of so many bytes at a place.
-fn value_at(state: &State, place: u32, size: u8) -> u32
+pub fn value_at(state: &State, place: u32, size: u8) -> u32
     requires { IsTrue (is_size size) }
     ensures { result ≡ value_at state.now.machine place size }
 {
@@ -23,7 +23,7 @@ fn value_at(state: &State, place: u32, size: u8) -> u32
 }
 
 /// The low bytes of a value, so many of them, as a signed number.
-fn signed_value(size: u8, value: u32) -> i32
+pub fn signed_value(size: u8, value: u32) -> i32
     ensures { result ≡ signed_value size value }
 {
     match size {

@@ -1,7 +1,6 @@
 use Rattle.std.proofs.Common.{◌≤◌, sym, subst}
-use Rattle.c62_profile.specs.Flights.{cycles_of}
+use Rattle.c62_profile.specs.Flights.{block_of, cycles_of}
 use Rattle.c62_profile.proofs.Parts.{few_in_block}
-use Rattle.c62_json_report.specs.Flights.{block_of}
 use Rattle.c62_json_report.proofs.flights.push_row.Goals as goal
 
 pub push_told-requires : goal.push_told-requires
