@@ -1,0 +1,16 @@
+-- Text in a page (HTML, "Character references").
+use Rattle.std.specs.Prelude.{ℕ, List, [], ◌∷◌, ◌==◌, codes, if◌then◌else◌}
+use Rattle.std.specs.List.{flat_map}
+
+-- a byte of a text as a page has it
+abbrev pub escaped_byte : ℕ → List ℕ
+escaped_byte b =
+    if b == 60 then codes "&lt;"
+    else if b == 62 then codes "&gt;"
+    else if b == 38 then codes "&amp;"
+    else if b == 34 then codes "&quot;"
+    else if b == 39 then codes "&#39;"
+    else b ∷ []
+
+abbrev pub escaped : List ℕ → List ℕ
+escaped text = flat_map escaped_byte text
