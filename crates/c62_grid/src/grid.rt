@@ -34,7 +34,7 @@ fn push_word(row: &mut String, widths: Widths, word: &str) -> Result<(), AllocEr
 }
 
 /// What stands behind a line: whether it is on the critical path.
-fn mark(path: &[u32], line: u32) -> &'static str
+pub fn mark(path: &[u32], line: u32) -> &'static str
     ensures { result.now ≡ mark path.now line }
 {
     if is_among(path, line) { "*" } else { " " }
@@ -74,7 +74,11 @@ fn push_issued(issued: &mut Vec<Placed>, placed: Placed, cycle: u32) -> Result<(
 }
 
 /// What is issued in this cycle.
-fn packet(alloc: Global, placed: &[Placed], cycle: u32) -> Result<Vec<Placed>, AllocError>
+///
+/// # Errors
+///
+/// Where memory ran out.
+pub fn packet(alloc: Global, placed: &[Placed], cycle: u32) -> Result<Vec<Placed>, AllocError>
     ensures { IfOk result (λ issued. issued.items ≡ packet placed.now cycle) }
 {
     let mut issued = Vec::new(alloc);
@@ -85,7 +89,7 @@ fn packet(alloc: Global, placed: &[Placed], cycle: u32) -> Result<Vec<Placed>, A
 }
 
 /// What a packet has on this unit.
-fn standing(issued: &[Placed], unit: Unit) -> Option<Placed>
+pub fn standing(issued: &[Placed], unit: Unit) -> Option<Placed>
     ensures { result ≡ find (is_on unit) issued.now }
 {
     issued

@@ -127,7 +127,12 @@ pub(crate) fn landed_between(
     Ok(found)
 }
 
-fn push_landed_name(out: &mut String, what: Landed) -> Result<(), AllocError>
+/// The name of what lands.
+///
+/// # Errors
+///
+/// Where memory ran out.
+pub fn push_landed_name(out: &mut String, what: Landed) -> Result<(), AllocError>
     ensures { OnOk result (AddsText out.old (landed_name what) out.new) }
 {
     match what {
@@ -182,11 +187,11 @@ fn push_landed_in(out: &mut String, landing: &Landing, cycle: u32) -> Result<(),
 }
 
 /// All that lands in the cycle of a row.
-pub(crate) fn push_all_landed(
-    out: &mut String,
-    landings: &[Landing],
-    cycle: u32,
-) -> Result<(), AllocError>
+///
+/// # Errors
+///
+/// Where memory ran out.
+pub fn push_all_landed(out: &mut String, landings: &[Landing], cycle: u32) -> Result<(), AllocError>
     ensures { OnOk result (AddsText out.old (flat_map (landed_in_row cycle) landings.now) out.new) }
 {
     for landing in landings {

@@ -7,7 +7,7 @@ mod paths;
 mod widths;
 pub mod words;
 
-pub use grid::Grid;
-pub use landing::{Landed, Landing, landings_of};
-pub use paths::path_name;
+pub use grid::{Grid, mark, packet, standing};
+pub use landing::{Landed, Landing, landings_of, push_all_landed, push_landed_name};
+pub use paths::{ALL_PATHS, path_name, taking};
 pub use widths::Widths;

@@ -16,7 +16,7 @@ use c62_rules::{Resource, taken_by};
 use std::alloc::{AllocError, Global};
 
 /// The paths that the instructions of a cycle share, in the order of their columns.
-const ALL_PATHS: [Resource; 4] = [
+pub const ALL_PATHS: [Resource; 4] = [
     Resource::CrossPath(Side::A),
     Resource::CrossPath(Side::B),
     Resource::DataPath(Side::A),
@@ -63,7 +63,7 @@ fn takes(placed: &Placed, path: Resource) -> bool
 }
 
 /// What of a packet takes a path.
-fn taking(issued: &[Placed], path: Resource) -> Option<Placed>
+pub fn taking(issued: &[Placed], path: Resource) -> Option<Placed>
     ensures { result ≡ find (takes path) issued.now }
 {
     issued.iter().copied().find(|each| takes(each, path))

@@ -1,3 +1,4 @@
 pub mod Numbered
 pub mod Counted
 pub mod StillRead
+pub mod LiveEach

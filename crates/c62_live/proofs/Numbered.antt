@@ -9,12 +9,13 @@ use Rattle.c62_op.specs.declared.register.Side.{Side}
 use Rattle.c62_op.specs.declared.register.Reg.{Reg}
 use Rattle.c62_live.specs.Live.{AreRegisters}
 
-push_before : {X : Type 0} (xs : List X) (x : X) (j : ℕ) → j < length xs → slice_get (xs ++ x ∷ []) j ≡ slice_get xs j
+pub push_before : {X : Type 0} (xs : List X) (x : X) (j : ℕ) → j < length xs
+    → slice_get (xs ++ x ∷ []) j ≡ slice_get xs j
 push_before [] x j inside = absurd (omega (arith, inside))
 push_before (y ∷ xs) x zero inside = refl
 push_before (y ∷ xs) x (suc j) inside = push_before xs x j (omega (arith, inside))
 
-push_last : {X : Type 0} (xs : List X) (x : X) → slice_get (xs ++ x ∷ []) (length xs) ≡ Some x
+pub push_last : {X : Type 0} (xs : List X) (x : X) → slice_get (xs ++ x ∷ []) (length xs) ≡ Some x
 push_last [] x = refl
 push_last (y ∷ xs) x = push_last xs x
 

@@ -1,3 +1,4 @@
 pub mod Live
 pub mod Lives
+pub mod Rows
 pub mod Laws

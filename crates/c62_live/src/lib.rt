@@ -4,6 +4,8 @@
 pub mod laws;
 mod live;
 mod lives;
+mod rows;
 mod uses;
 
 pub use lives::{Lives, SideLives, lives_of};
+pub use rows::{LiveRow, live_rows};

@@ -63,7 +63,7 @@ fn registers_of(alloc: Global, side: Side) -> Result<Vec<Reg>, AllocError>
 }
 
 /// The registers behind a block, where none is known to be live.
-fn behind(alloc: Global, regs: &[Reg]) -> Result<Vec<Tracked>, AllocError>
+pub(crate) fn behind(alloc: Global, regs: &[Reg]) -> Result<Vec<Tracked>, AllocError>
     ensures { IfOk result (λ tracked. tracked.items ≡ map dead regs.now) }
 {
     let mut tracked = Vec::with_capacity(alloc, regs.len())?;

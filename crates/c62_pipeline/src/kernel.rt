@@ -53,12 +53,13 @@ fn front(rows: &[Row], count: usize) -> &[Row]
 
 /// The rows of a kernel, and those behind it.
 #[derive(Clone, Copy)]
-struct Parts<'a> {
-    kernel: &'a [Row],
-    epilog: &'a [Row],
+pub struct Parts<'a> {
+    pub kernel: &'a [Row],
+    pub epilog: &'a [Row],
 }
 
-fn parts_of(pipelined: &Pipelined) -> Parts<'_>
+/// The kernel of a pipelined loop, and what stands behind it.
+pub fn parts_of(pipelined: &Pipelined) -> Parts<'_>
     ensures kernel { result.kernel.now ≡ kernel_of pipelined.now }
     ensures epilog { result.epilog.now ≡ epilog_of pipelined.now }
 {
@@ -71,14 +72,14 @@ fn parts_of(pipelined: &Pipelined) -> Parts<'_>
 }
 
 /// Whether a row has an instruction of this line.
-fn has_line(row: &Row, line: u32) -> bool
+pub fn has_line(row: &Row, line: u32) -> bool
     ensures { result ≡ has_line line row.now }
 {
     row.insns.iter().any(|each| each.line == line)
 }
 
 /// The stage of an instruction of a kernel with this epilog.
-fn stage_of(epilog: &[Row], placed: &Placed) -> usize
+pub fn stage_of(epilog: &[Row], placed: &Placed) -> usize
     ensures { result ≡ stage_of epilog.now placed.now }
 {
     epilog
@@ -174,15 +175,19 @@ fn push_issue(
 }
 
 /// So many cycles later, as far as numbers go.
-fn later(cycle: u64, cycles: u32) -> u64
+pub fn later(cycle: u64, cycles: u32) -> u64
     ensures { result ≡ later cycle cycles }
 {
     cycle.saturating_add(u64::from(cycles))
 }
 
 /// The first and the last of some cycles, or the only one.
+///
+/// # Errors
+///
+/// `AllocError` where memory ran out.
 #[tactic(auto, unfolding(c62_grid::specs::Grid::range_text))]
-fn push_range(out: &mut String, first: u64, last: u64) -> Result<(), AllocError>
+pub fn push_range(out: &mut String, first: u64, last: u64) -> Result<(), AllocError>
     ensures { OnOk result (AddsText out.old (range_text first last) out.new) }
 {
     push_number(out, first)?;

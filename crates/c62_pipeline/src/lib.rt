@@ -12,6 +12,6 @@ mod splice;
 mod written;
 
 pub use chosen::{Choice, Kept};
-pub use kernel::kernels;
-pub use lines::loop_lines;
+pub use kernel::{Parts, has_line, kernels, later, parts_of, push_range, stage_of};
+pub use lines::{loop_lines, push_choice, push_name_at};
 pub use written::{Pipelining, pipeline};

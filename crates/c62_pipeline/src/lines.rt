@@ -107,7 +107,11 @@ fn push_name(out: &mut String, number: u8, block: &Block) -> Result<(), AllocErr
 }
 
 /// The name of the loop that the block of this number is.
-pub(crate) fn push_name_at(out: &mut String, blocks: &[Block], number: u8) -> Result<(), AllocError>
+///
+/// # Errors
+///
+/// `AllocError` where memory ran out.
+pub fn push_name_at(out: &mut String, blocks: &[Block], number: u8) -> Result<(), AllocError>
     ensures { OnOk result (AddsText out.old (name_in number (slice_get blocks.now number)) out.new) }
 {
     match blocks.get(usize::from(number)) {
@@ -117,8 +121,12 @@ pub(crate) fn push_name_at(out: &mut String, blocks: &[Block], number: u8) -> Re
 }
 
 /// What became of one of these blocks that is a loop, as a line.
+///
+/// # Errors
+///
+/// `AllocError` where memory ran out.
 #[tactic(auto, unfolding(crate::specs::Lines::choice_line))]
-pub(crate) fn push_choice(
+pub fn push_choice(
     out: &mut String,
     blocks: &[Block],
     choice: &Choice,

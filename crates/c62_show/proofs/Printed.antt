@@ -61,7 +61,7 @@ part_of_each f (y ∷ xs) (suc k) x part at has = behind_text (f y) (flat_map f 
 
 -- ---- the cell
 
-unit_at : (unit : FunctionalUnit) → (k : ℕ) × (slice_get all_units k ≡ Some unit)
+pub unit_at : (unit : FunctionalUnit) → (k : ℕ) × (slice_get all_units k ≡ Some unit)
 unit_at unit = by_unit unit.letter unit.side
   where
     by_unit : (letter : Letter) (side : Side) → (k : ℕ)
@@ -98,7 +98,7 @@ row_is : (widths : Widths) (path : List ℕ) (cycles : ℕ) (placed : List Place
 unfolding row_at
 row_is widths path cycles placed cycle issued = rw issued refl
 
-cycle_in : (cycles cycle : ℕ) → cycle < cycles → slice_get (range_with_len 0 cycles) cycle ≡ Some cycle
+pub cycle_in : (cycles cycle : ℕ) → cycle < cycles → slice_get (range_with_len 0 cycles) cycle ≡ Some cycle
 cycle_in cycles cycle less =
     slice_get-get_or (range_with_len 0 cycles) cycle 0
     (let long = length-range_with_len 0 cycles in omega (arith, long, less))
@@ -163,7 +163,8 @@ blocks_part widths number (first ∷ shown) (suc k) each part at has =
 
 -- ---- the picture
 
-before_end : (each : Shown) (k : ℕ) (p : Placed) → IsPacketBlock each.packets → slice_get each.packets.placed k ≡ Some p
+pub before_end : (each : Shown) (k : ℕ) (p : Placed) → IsPacketBlock each.packets
+    → slice_get each.packets.placed k ≡ Some p
     → p.cycle < each.packets.cycles
 before_end each k p sound at =
     let inside = slice_get_within each.packets.placed k p at in

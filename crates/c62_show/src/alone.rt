@@ -3,18 +3,20 @@
 ghost use Rattle.std.specs.Prelude.{◌≡◌, OnOk, IfOk, option_map, string_bytes};
 ghost use Rattle.c62_show.specs.Limits.{least_of};
 ghost use Rattle.c62_listing.specs.Written.{AddsText};
-ghost use Rattle.c62_show.specs.Summary.{head_text, summary};
+ghost use Rattle.c62_show.specs.Summary.{head_text, size_of, summary};
 
 use crate::head::{push_name, push_size};
 use crate::shown::{Shown, least_told};
 use std::alloc::{AllocError, Global};
 
-/// The head of a block.
-#[tactic(auto, unfolding(crate::specs::Summary::head_text))]
-fn push_head(out: &mut String, number: u64, shown: &Shown) -> Result<(), AllocError>
-    ensures { OnOk result (AddsText out.old (head_text number shown.now) out.new) }
+/// What stands behind the name of a block.
+///
+/// # Errors
+///
+/// Where memory ran out.
+pub fn push_size_of(out: &mut String, shown: &Shown) -> Result<(), AllocError>
+    ensures { OnOk result (AddsText out.old (size_of shown.now shown.now.packets.placed) out.new) }
 {
-    push_name(out, number, shown.packets.label())?;
     if shown.packets.placed().is_empty() {
         return out.push_str(": no instruction\n");
     }
@@ -24,6 +26,15 @@ fn push_head(out: &mut String, number: u64, shown: &Shown) -> Result<(), AllocEr
         u64::from(shown.packets.length()),
         least_told(&shown.limits),
     )
+}
+
+/// The head of a block.
+#[tactic(auto, unfolding(crate::specs::Summary::head_text))]
+fn push_head(out: &mut String, number: u64, shown: &Shown) -> Result<(), AllocError>
+    ensures { OnOk result (AddsText out.old (head_text number shown.now) out.new) }
+{
+    push_name(out, number, shown.packets.label())?;
+    push_size_of(out, shown)
 }
 
 /// The heads of these blocks, in their order, a line each: how long a block is, and whether it could be shorter.

@@ -18,11 +18,11 @@ use std::alloc::{AllocError, Global};
 const MOST_COLUMNS: usize = 98;
 
 /// The label of a block, or its number.
-pub(crate) fn push_name(
-    out: &mut String,
-    number: u64,
-    label: Option<&Label>,
-) -> Result<(), AllocError>
+///
+/// # Errors
+///
+/// Where memory ran out.
+pub fn push_name(out: &mut String, number: u64, label: Option<&Label>) -> Result<(), AllocError>
     ensures { OnOk result (AddsText out.old (name number (option_copied label.entry)) out.new) }
 {
     match label {

@@ -51,7 +51,12 @@ fn push_most(out: &mut String, most: u64, cycle: u64) -> Result<(), AllocError>
     Ok(())
 }
 
-fn push_names(out: &mut String, regs: &[Reg]) -> Result<(), AllocError>
+/// The names of registers, with a space before each.
+///
+/// # Errors
+///
+/// Where memory ran out.
+pub fn push_names(out: &mut String, regs: &[Reg]) -> Result<(), AllocError>
     ensures { OnOk result (AddsText out.old (names regs.now) out.new) }
 {
     for reg in regs {
@@ -93,7 +98,11 @@ fn push_both(out: &mut String, lives: &Lives) -> Result<(), AllocError>
 }
 
 /// The lines of the registers, where they are asked for.
-pub(crate) fn push_registers(out: &mut String, lives: &Option<Lives>) -> Result<(), AllocError>
+///
+/// # Errors
+///
+/// Where memory ran out.
+pub fn push_registers(out: &mut String, lives: &Option<Lives>) -> Result<(), AllocError>
     ensures { OnOk result (AddsText out.old (register_lines lives.now) out.new) }
 {
     match lives {

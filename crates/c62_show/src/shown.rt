@@ -61,7 +61,7 @@ pub(crate) fn least_told(limits: &Option<Limits>) -> Option<u64>
 }
 
 /// The lines of the critical path, where it is known.
-fn marked(limits: &Option<Limits>) -> &[u32]
+pub fn marked(limits: &Option<Limits>) -> &[u32]
     ensures { result.now ≡ marked limits.now }
 {
     match limits {
@@ -71,7 +71,15 @@ fn marked(limits: &Option<Limits>) -> &[u32]
 }
 
 /// Why each schedule of a block takes so many cycles, where that is known.
-fn push_limits(alloc: Global, out: &mut String, limits: &Option<Limits>) -> Result<(), AllocError>
+///
+/// # Errors
+///
+/// Where memory ran out.
+pub fn push_limits(
+    alloc: Global,
+    out: &mut String,
+    limits: &Option<Limits>,
+) -> Result<(), AllocError>
     ensures { OnOk result (AddsText out.old (limit_lines limits.now) out.new) }
 {
     match limits {

@@ -36,7 +36,12 @@ fn push_taken(out: &mut String, taken: &Taken) -> Result<(), AllocError>
     push_number(out, u64::from(taken.by))
 }
 
-fn push_cause(out: &mut String, cause: &Cause) -> Result<(), AllocError>
+/// What keeps an instruction from the cycle before its own.
+///
+/// # Errors
+///
+/// Where memory ran out.
+pub fn push_cause(out: &mut String, cause: &Cause) -> Result<(), AllocError>
     ensures { OnOk result (AddsText out.old (cause_words cause.now) out.new) }
 {
     match cause {
