@@ -9,6 +9,8 @@ mod expect;
 #[cfg(test)]
 mod pack;
 #[cfg(test)]
+mod pages;
+#[cfg(test)]
 mod shortest;
 #[cfg(test)]
 mod show;

@@ -41,7 +41,7 @@ fn place(rt: &impl Abort, board: &mut Board, i: u16) -> Result<Spot, PlaceFault>
 }
 
 /// The board of the only block of a text, placed in the order of the text.
-fn board_of(rt: &impl Abort, alloc: Global, text: &str) -> Result<Board, Fail> {
+pub(crate) fn board_of(rt: &impl Abort, alloc: Global, text: &str) -> Result<Board, Fail> {
     let mut blocks = read_program(alloc, text.as_bytes())?.into_blocks();
     equal_in(rt, &text, &blocks.len(), &1);
     let block = blocks.pop().expect(rt, "a block");

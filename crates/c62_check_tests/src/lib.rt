@@ -11,6 +11,8 @@ mod check_rest;
 #[cfg(test)]
 mod expect;
 #[cfg(test)]
+mod loop_pages;
+#[cfg(test)]
 mod pipeline;
 #[cfg(test)]
 mod standing;

@@ -68,9 +68,10 @@ fn told(
 }
 
 /// A sum of words, and its own packets.
-const SUM: &str = "L: LDW .D1 *A4++,A2\n ADD .L1 A2,A3,A3\n SUB .S1 A1,1,A1\n [A1] B .S2 L\n";
+pub(crate) const SUM: &str =
+    "L: LDW .D1 *A4++,A2\n ADD .L1 A2,A3,A3\n SUB .S1 A1,1,A1\n [A1] B .S2 L\n";
 
-const SUM_PACKETS: &str =
+pub(crate) const SUM_PACKETS: &str =
     "L:\n   SUB .S1 A1,1,A1\n|| LDW .D1T1 *A4++[1],A2\n   [A1] B .S2 L\n   NOP 3\n   ADD .L1 A2,A3,A3\n   NOP 1\n";
 
 /// Its packets with an interval of one cycle,
@@ -170,7 +171,7 @@ const ROWS: [Row; 6] = [
     },
 ];
 
-fn promised(alloc: Global, trips: &[&str]) -> Result<Promises, AllocError> {
+pub(crate) fn promised(alloc: Global, trips: &[&str]) -> Result<Promises, AllocError> {
     match read_trips(alloc, trips) {
         Ok(trips) => Ok(Promises {
             trips,

@@ -1,0 +1,4 @@
+pub mod Drawing
+pub mod Parts
+pub mod Shown
+pub mod Owned

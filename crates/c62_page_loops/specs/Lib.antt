@@ -1,0 +1,4 @@
+pub mod Kernel
+pub mod Text
+pub mod Page
+pub mod Laws
