@@ -46,6 +46,7 @@ module _ (ask : Ask) (text : List ℕ) where
   no_program same (failures.RowsPart fault) gives = absurd gives
   no_program same (failures.NoLoop k) gives = absurd gives
   no_program same (failures.Promise bad) gives = absurd gives
+  no_program same failures.Ways gives = absurd gives
   no_program same (failures.Words e) gives = absurd gives
   no_program same (failures.Setting k) gives = absurd gives
   no_program same failures.Memory gives = tt

@@ -26,6 +26,7 @@ use Rattle.c62_answer.specs.Parting.{IsParted}
 use Rattle.c62_answer.specs.Texts.{SaysProgram}
 use Rattle.c62_answer.specs.Run.{GivesRowsPart}
 use Rattle.c62_command.specs.CommandLine.{Ask, Document, LoopListing, LoopPicture, LoopVerdicts, Reaching, rendered}
+use Rattle.c62_command.specs.declared.command.Drawing.{Drawing}
 use Rattle.c62_command.specs.declared.command.Packing.{Packing}
 use Rattle.c62_command.specs.declared.command.Rendering.{Rendering}
 use Rattle.c62_command.specs.declared.command.Rendering.TheVariants.{Text as InText, Json as InJson}
@@ -67,6 +68,7 @@ module _ (ask : Ask) (text : List ℕ) where
   refused_too (failures.RowsPart fault) gives = gives
   refused_too (failures.NoLoop k) gives = gives
   refused_too (failures.Promise bad) gives = gives
+  refused_too failures.Ways gives = gives
   refused_too (failures.Words e) gives = gives
   refused_too (failures.Setting k) gives = gives
   refused_too failures.Memory gives = gives
@@ -94,6 +96,7 @@ module _ (ask : Ask) (name text : List ℕ) where
   reached_document taken (Err failures.NoListing) is gives = inr (taken, is, gives)
   reached_document taken (Err (failures.NoLoop k)) is gives = inr (taken, is, gives)
   reached_document taken (Err (failures.Promise bad)) is gives = absurd gives
+  reached_document taken (Err failures.Ways) is gives = absurd gives
   reached_document taken (Err (failures.Words e)) is gives = absurd gives
   reached_document taken (Err (failures.Setting k)) is gives = absurd gives
   reached_document taken (Err failures.Memory) is gives = tt
@@ -116,14 +119,15 @@ module _ (trips : List (Name × ℕ)) (apart : List Reg) (text : List ℕ) (repl
     is,
   )
 
-  pub drawn_lines : (packing : Packing) → Gives (LoopPicture packing trips apart) text (Ok reply)
+  pub drawn_lines : (drawing : Drawing) (packing : Packing)
+      → Gives (LoopPicture drawing packing trips apart) text (Ok reply)
       → answer ≡ lines_document (codes "show") reply.text.items
-      → (told : List ℕ) × (is : IsTextAnswer (LoopPicture packing trips apart) outcome text told)
-      × Documents (LoopPicture packing trips apart) outcome text told is answer
-  drawn_lines packing gives is = (
+      → (told : List ℕ) × (is : IsTextAnswer (LoopPicture drawing packing trips apart) outcome text told)
+      × Documents (LoopPicture drawing packing trips apart) outcome text told is answer
+  drawn_lines drawing packing gives is = (
     reply.text.items,
     subst (λ (o : Outcome). IsTextAnswer
-        (LoopPicture packing trips apart) o text reply.text.items) (sym ends) gives,
+        (LoopPicture drawing packing trips apart) o text reply.text.items) (sym ends) gives,
     is,
   )
 

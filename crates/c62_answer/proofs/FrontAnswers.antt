@@ -1,5 +1,5 @@
 -- What answers that which is read of an input, at most one byte past the limit, answers all of it.
-use Rattle.std.proofs.Common.{◌≡◌, ◌∙◌, ℕ, ◌+◌, true, false, List, take, None, arith, refl, subst, sym}
+use Rattle.std.proofs.Common.{◌≡◌, ◌∙◌, ℕ, ◌+◌, true, false, List, take, None, ap, arith, refl, subst, sym}
 use Rattle.c62_read.specs.Program.{most_bytes, program_in}
 use Rattle.c62_listing_reader.specs.Faults.{drafts_in as listed_in, most_bytes as most_listing_bytes}
 use Rattle.c62_adopt.specs.Answer.{code_read}
@@ -19,6 +19,11 @@ use Rattle.c62_answer.proofs.Flights.{flight_all}
 use Rattle.c62_answer.proofs.Fronts.{adopted_all, code_all, drained_all, listed_all, looped_all}
 use Rattle.c62_answer.proofs.Fronts.{program_all}
 use Rattle.c62_answer.proofs.TooLong.{read_same}
+use Rattle.c62_answer.proofs.Whole.{whole_listing, whole_packets, whole_program}
+use Rattle.c62_answer.specs.Drawing.{drawing as drawn_so, loop_drawing}
+use Rattle.c62_answer.specs.Standing.{IsDrawn}
+use Rattle.c62_command.specs.declared.command.Showing.{Showing}
+use Rattle.c62_packet.specs.Packed.{Packed}
 
 -- as much of an input as is read under a limit
 abbrev front : ℕ → List ℕ → List ℕ
@@ -32,6 +37,15 @@ listed_front all = listed_all all (front most_listing_bytes all) refl
 
 code_front : (all : List ℕ) → code_read (front most_packets_bytes all) ≡ code_read all
 code_front all = code_all all (front most_packets_bytes all) refl
+
+-- what is drawn of packets beside a text is so beside the same text
+unfoldable drawn_all : {text other : List ℕ} (showing : Showing) (packets : List Packed) (answer : List ℕ)
+    → text ≡ other → IsDrawn showing packets text answer → IsDrawn showing packets other answer
+drawn_all showing packets answer same is = record {
+  shown = is.shown;
+  standing = is.standing;
+  drawn = is.drawn ∙ ap (λ (text : List ℕ). drawn_so showing text is.shown) same;
+}
 
 -- the text that answers what was read answers all
 unfoldable answered_text : (ask : Ask) (outcome : Outcome) (all answer : List ℕ)
@@ -49,17 +63,17 @@ answered_text (Picture showing) Done all answer is = record {
   shown = is.shown;
   packed = is.packed;
   bounded = is.bounded;
-  drawn = is.drawn;
+  drawn = is.drawn ∙ ap (λ (text : List ℕ). drawn_so showing text is.shown) (whole_program all is.program is.says);
 }
 answered_text (ListingPicture showing) Done all answer is = record {
   packets = is.packets;
   read = read_same (front most_listing_bytes all) all is.packets (listed_front all) is.read;
-  drawn = is.drawn;
+  drawn = drawn_all showing is.packets answer (whole_listing all is.packets is.read) is.drawn;
 }
 answered_text (PacketsPicture showing) Done all answer is = record {
   packets = is.packets;
   adopted = adopted_same false (front most_packets_bytes all) all is.packets 0 (code_front all) is.adopted;
-  drawn = is.drawn;
+  drawn = drawn_all showing is.packets answer (whole_packets all is.packets is.adopted) is.drawn;
 }
 answered_text (SerialReport course settings apart) outcome all answer is = record {
   program = is.program;
@@ -109,11 +123,12 @@ answered_text (LoopListing verbose packing trips apart) (Looped told None) all a
   lines = is.lines;
   listed = is.listed;
 }
-answered_text (LoopPicture packing trips apart) Done all answer is = record {
+answered_text (LoopPicture drawing packing trips apart) Done all answer is = record {
   program = is.program;
   written = is.written;
   looped = looped_all packing trips apart all (front most_bytes all) is.program is.written refl is.looped;
-  drawn = is.drawn;
+  drawn = is.drawn ∙ ap (λ (text : List ℕ). loop_drawing drawing text is.program is.written)
+      (whole_program all is.program is.looped.says);
 }
 answered_text (LoopReport verbose packing trips apart course settings) (Looped told has) all answer is = record {
   program = is.program;
@@ -134,7 +149,7 @@ documented : (ask : Ask) (outcome : Outcome) (all told answer : List ℕ)
     (is : IsTextAnswer ask outcome (front (limit_of ask) all) told)
     → Documents ask outcome (front (limit_of ask) all) told is answer
     → Documents ask outcome all told (answered_text ask outcome all told is) answer
-unfolding answered_text adopted_all drained_all flight_all check_all loop_check_all
+unfolding answered_text drawn_all adopted_all drained_all flight_all check_all loop_check_all
 documented (Listing packing) Done all told answer is document = document
 documented (Picture showing) Done all told answer is document = document
 documented (ListingPicture showing) Done all told answer is document = document
@@ -154,7 +169,7 @@ documented (Verdicts Written) NotSame all told answer is document = document
 documented (LoopVerdicts trips apart) Done all told answer is document = document
 documented (LoopVerdicts trips apart) NotSame all told answer is document = document
 documented (LoopListing verbose packing trips apart) outcome all told answer is document = document
-documented (LoopPicture packing trips apart) outcome all told answer is document = document
+documented (LoopPicture drawing packing trips apart) outcome all told answer is document = document
 documented (LoopReport verbose packing trips apart course settings) (Looped lines has) all told answer is document =
     document
 documented _ _ all told answer is document = absurd document
@@ -192,7 +207,7 @@ answered (LoopVerdicts trips apart) outcome all text answer read is =
     plain (LoopVerdicts trips apart) outcome all text answer read is
 answered (LoopListing verbose packing trips apart) outcome all text answer read is =
     plain (LoopListing verbose packing trips apart) outcome all text answer read is
-answered (LoopPicture packing trips apart) outcome all text answer read is =
-    plain (LoopPicture packing trips apart) outcome all text answer read is
+answered (LoopPicture drawing packing trips apart) outcome all text answer read is =
+    plain (LoopPicture drawing packing trips apart) outcome all text answer read is
 answered (LoopReport verbose packing trips apart course settings) outcome all text answer read is =
     plain (LoopReport verbose packing trips apart course settings) outcome all text answer read is

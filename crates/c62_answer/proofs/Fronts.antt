@@ -168,7 +168,8 @@ refused_all (Verdicts form) all text message read is = unchecked_all form all te
 refused_all (LoopVerdicts trips apart) all text message read is = loops_unchecked_all trips all text message read is
 refused_all (LoopListing verbose packing trips apart) all text message read is =
     unlooped_all trips all text message read is
-refused_all (LoopPicture packing trips apart) all text message read is = unlooped_all trips all text message read is
+refused_all (LoopPicture drawing packing trips apart) all text message read is =
+    unlooped_all trips all text message read is
 refused_all (LoopReport verbose packing trips apart course settings) all text message read (inl is) =
     inl (unlooped_all trips all text message read is)
 refused_all (LoopReport verbose packing trips apart course settings) all text message read (inr is) = inr (record {

@@ -14,6 +14,7 @@ pub mod FlyingPart
 pub mod Flights
 pub mod Reached
 pub mod Fronts
+pub mod Whole
 pub mod FrontAnswers
 mod Statuses
 mod Looping

@@ -56,6 +56,7 @@ module _ (trips : List (Name × ℕ)) (apart : List Reg) (input text listing : L
   no_text (failures.Words e) gives = absurd gives
   no_text (failures.Setting k) gives = absurd gives
   no_text (failures.Promise bad) gives = absurd gives
+  no_text failures.Ways gives = absurd gives
   no_text failures.Memory gives = tt
   no_text failures.Input gives = absurd gives
   no_text failures.Output gives = absurd gives
@@ -113,6 +114,7 @@ module _ (trips : List (Name × ℕ)) (apart : List Reg) (input text listing : L
     no_rows named (failures.Words e) gives = absurd gives
     no_rows named (failures.Setting k) gives = absurd gives
     no_rows named (failures.Promise bad) gives = absurd gives
+    no_rows named failures.Ways gives = absurd gives
     no_rows named failures.Memory gives = tt
     no_rows named failures.Input gives = absurd gives
     no_rows named failures.Output gives = absurd gives

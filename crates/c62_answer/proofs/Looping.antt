@@ -11,6 +11,7 @@ use Rattle.c62_rows.specs.Text.{RefusesFrom}
 use Rattle.c62_rows.specs.Told.{BeginsAs}
 use Rattle.c62_check_loops.specs.Granted.{first_loopless}
 use Rattle.c62_command.specs.CommandLine.{Ask, LoopListing, LoopPicture, LoopReport}
+use Rattle.c62_command.specs.declared.command.Drawing.{Drawing}
 use Rattle.c62_command.specs.declared.command.Packing.{Packing}
 use Rattle.c62_command.specs.declared.flight.FlightCourse.{FlightCourse}
 use Rattle.c62_command.specs.declared.setting.Setting.{Setting}
@@ -41,6 +42,7 @@ module _ (trips : List (Name × ℕ)) (text : List ℕ) where
   unread_loops (failures.RowsPart fault) gives = absurd gives
   unread_loops (failures.NoLoop k) gives = absurd gives
   unread_loops (failures.Promise bad) gives = absurd gives
+  unread_loops failures.Ways gives = absurd gives
   unread_loops (failures.Words e) gives = absurd gives
   unread_loops (failures.Setting k) gives = absurd gives
   unread_loops failures.Memory gives = tt
@@ -67,6 +69,7 @@ module _ (trips : List (Name × ℕ)) (text : List ℕ) where
   no_loops ask same (failures.RowsPart fault) gives = absurd gives
   no_loops ask same (failures.NoLoop number) gives = same (no_loop number) gives
   no_loops ask same (failures.Promise bad) gives = absurd gives
+  no_loops ask same failures.Ways gives = absurd gives
   no_loops ask same (failures.Words e) gives = absurd gives
   no_loops ask same (failures.Setting k) gives = absurd gives
   no_loops ask same failures.Memory gives = tt
@@ -79,9 +82,11 @@ pub no_listed_loops : (verbose : Bool) (packing : Packing) (trips : List (Name �
 no_listed_loops verbose packing trips apart text =
     no_loops trips text (LoopListing verbose packing trips apart) (λ message is. is)
 
-pub no_drawn_loops : (packing : Packing) (trips : List (Name × ℕ)) (apart : List Reg) (text : List ℕ)
-    (f : Failure) → RefusesLooped trips text f → Gives (LoopPicture packing trips apart) text (Err f)
-no_drawn_loops packing trips apart text = no_loops trips text (LoopPicture packing trips apart) (λ message is. is)
+pub no_drawn_loops : (drawing : Drawing) (packing : Packing) (trips : List (Name × ℕ)) (apart : List Reg)
+    (text : List ℕ) (f : Failure) → RefusesLooped trips text f
+    → Gives (LoopPicture drawing packing trips apart) text (Err f)
+no_drawn_loops drawing packing trips apart text =
+    no_loops trips text (LoopPicture drawing packing trips apart) (λ message is. is)
 
 pub no_run_loops : (verbose : Bool) (packing : Packing) (trips : List (Name × ℕ)) (apart : List Reg)
     (course : FlightCourse) (settings : List Setting) (text : List ℕ) (f : Failure) → RefusesLooped trips text f

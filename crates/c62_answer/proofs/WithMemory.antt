@@ -49,7 +49,7 @@ document_ends (LoopReport verbose packing trips apart course settings) NotSame t
 document_ends (LoopReport verbose packing trips apart course settings) (Breached breach) text told answer is document =
     absurd is
 document_ends (LoopListing verbose packing trips apart) outcome text told answer is document = tt
-document_ends (LoopPicture packing trips apart) outcome text told answer is document = tt
+document_ends (LoopPicture drawing packing trips apart) outcome text told answer is document = tt
 document_ends (Listing packing) outcome text told answer is document = tt
 document_ends (Picture showing) outcome text told answer is document = tt
 document_ends (ListingPicture showing) outcome text told answer is document = tt
@@ -94,7 +94,7 @@ ends_with_memory (LoopReport verbose packing trips apart course settings) (Drain
 ends_with_memory (LoopReport verbose packing trips apart course settings) NotSame text answer is = absurd is
 ends_with_memory (LoopReport verbose packing trips apart course settings) (Breached breach) text answer is = absurd is
 ends_with_memory (LoopListing verbose packing trips apart) outcome text answer is = tt
-ends_with_memory (LoopPicture packing trips apart) outcome text answer is = tt
+ends_with_memory (LoopPicture drawing packing trips apart) outcome text answer is = tt
 ends_with_memory (Listing packing) outcome text answer is = tt
 ends_with_memory (Picture showing) outcome text answer is = tt
 ends_with_memory (ListingPicture showing) outcome text answer is = tt

@@ -8,11 +8,12 @@ use Rattle.c62_rows.specs.declared.fault.RowsFault.{RowsFault}
 use Rattle.c62_rows.specs.declared.fault.RowsFault.TheVariants.{Memory as NoPlace}
 use Rattle.c62_rows.specs.Text.{RefusesFrom}
 use Rattle.c62_check_loops.specs.Granted.{first_loopless}
+use Rattle.c62_command.specs.declared.command.Drawing.{Drawing}
 use Rattle.c62_command.specs.declared.command.Packing.{Packing}
 use Rattle.c62_pipeline.specs.declared.written.Pipelining.{Pipelining}
 use Rattle.c62_pipeline.specs.Checked.{IsWritten}
-use Rattle.c62_pipeline.specs.Kernel.{kernels}
 use Rattle.c62_pipeline.specs.Lines.{loop_lines}
+use Rattle.c62_answer.specs.Drawing.{loop_drawing}
 use Rattle.c62_answer.specs.Message.{no_loop, rows_message}
 use Rattle.c62_answer.specs.Schedule.{AreScheduled}
 use Rattle.c62_answer.specs.Texts.{SaysProgram, IsNoProgram}
@@ -39,12 +40,12 @@ pub record IsLoopListing (verbose : Bool) (packing : Packing) (trips : List (Nam
   pub lines : told ≡ told_lines verbose program written
   pub listed : answer ≡ written.text.items
 
--- the picture of the loops of such packets
-pub record IsLoopPicture (packing : Packing) (trips : List (Name × ℕ)) (apart : List Reg) (text answer : List ℕ) : Type 0 where
+-- the picture of the loops of such packets, drawn so
+pub record IsLoopPicture (drawing : Drawing) (packing : Packing) (trips : List (Name × ℕ)) (apart : List Reg) (text answer : List ℕ) : Type 0 where
   pub program : List Serial
   pub written : Pipelining
   pub looped : IsLooped packing trips apart text program written
-  pub drawn : answer ≡ kernels program written
+  pub drawn : answer ≡ loop_drawing drawing text program written
 
 -- ---- refusals
 

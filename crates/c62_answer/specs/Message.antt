@@ -61,6 +61,9 @@ abbrev pub promise_message : BadPromise → List ℕ
 promise_message (promise.Trips number) = trips_message number (codes "bad")
 promise_message promise.Apart = codes "apart: bad\n"
 
+abbrev pub ways_message : List ℕ
+ways_message = codes "words: bad\n"
+
 -- what is told of a failure; clap's own text is left open
 abbrev pub message_of : Failure → Option (List ℕ)
 message_of (failure.Unread fault) = Some (fault_message fault.line fault.cause)
@@ -76,6 +79,7 @@ message_of (failure.NoLoop number) = Some (no_loop number)
 message_of (failure.Words error) = None
 message_of (failure.Setting number) = Some (setting_message number)
 message_of (failure.Promise bad) = Some (promise_message bad)
+message_of failure.Ways = Some ways_message
 message_of failure.Memory = Some (codes "memory\n")
 message_of failure.Input = Some (codes "input\n")
 message_of failure.Output = Some (codes "output\n")

@@ -4,7 +4,7 @@ use Rattle.std.specs.Io.KnownBytes.{Appends, Consumes, Keeps}
 use Rattle.std.specs.Option.{IsSomeAnd}
 use Rattle.clap.specs.Words.{Text}
 use Rattle.c62_answer.specs.declared.failure.Failure.{Failure}
-use Rattle.c62_answer.specs.declared.failure.Failure.TheVariants.{Unread, Unlisted, Unadopted, Unflown, TextPart, ListingPart, PacketsPart, RowsPart, NoListing, NoLoop, Words, Setting, Promise, Memory, Input, Output}
+use Rattle.c62_answer.specs.declared.failure.Failure.TheVariants.{Unread, Unlisted, Unadopted, Unflown, TextPart, ListingPart, PacketsPart, RowsPart, NoListing, NoLoop, Words, Setting, Promise, Ways, Memory, Input, Output}
 use Rattle.c62_answer.specs.declared.outcome.Added.{Added}
 use Rattle.c62_answer.specs.declared.outcome.Outcome.{Outcome}
 use Rattle.c62_answer.specs.declared.outcome.Outcome.TheVariants.{Done, Drained, NotSame, Breached, Looped}
@@ -76,8 +76,8 @@ use Rattle.c62_json_check.specs.Checked.{IsCheckDocument}
 use Rattle.c62_json_show.specs.Shown.{blocks_member as shown_members}
 use Rattle.c62_json_adopt.specs.declared.adopted.Drained.{Drained as DrainedTold}
 use Rattle.c62_json_adopt.specs.Adopted.{adopted_members}
-use Rattle.c62_command.specs.CommandLine.{Ask, Listing, Picture, ListingPicture, PacketsPicture, SerialReport, PacketReport, StandingReport, FlightReport, Adoption, Reaching, Document, Verdicts, LoopVerdicts, LoopListing, LoopPicture, LoopReport, IsRefusal, IsUnknown, HasBadSetting, HasBadPromise, asked}
-use Rattle.c62_answer.specs.Message.{adopt_message, fault_message, list_message, rows_message, no_listing, no_loop, of_listing, of_text, promise_message, setting_message, IsFront, IsToldOf, Telling, Tells, TellsOf, TellsOutcome}
+use Rattle.c62_command.specs.CommandLine.{Ask, Listing, Picture, ListingPicture, PacketsPicture, SerialReport, PacketReport, StandingReport, FlightReport, Adoption, Reaching, Document, Verdicts, LoopVerdicts, LoopListing, LoopPicture, LoopReport, IsRefusal, IsUnknown, HasBadSetting, HasBadPromise, HasTwoWays, asked}
+use Rattle.c62_answer.specs.Message.{adopt_message, fault_message, list_message, rows_message, no_listing, no_loop, of_listing, of_text, promise_message, setting_message, ways_message, IsFront, IsToldOf, Telling, Tells, TellsOf, TellsOutcome}
 use Rattle.c62_answer.specs.Texts.{SaysProgram, SaysPackets, SaysNoPackets, IsNoProgram, IsNoListing, IsNoPackets, IsNoFlight, IsUnreached}
 use Rattle.c62_answer.specs.Check.{IsCheck, IsNoCheck}
 use Rattle.c62_answer.specs.LoopCheck.{IsFlying, IsLoopCheck, IsNoLoopCheck}
@@ -101,6 +101,7 @@ status_of (NoLoop _) = 1
 status_of (Words _) = 2
 status_of (Setting _) = 2
 status_of (Promise _) = 2
+status_of Ways = 2
 status_of Memory = 3
 status_of Input = 4
 status_of Output = 4
@@ -177,6 +178,7 @@ abbrev pub IsCommandFailure : CommandError → Failure → Type 0
 IsCommandFailure (command.Words error) f = f ≡ Words error
 IsCommandFailure (command.Setting k) f = f ≡ Setting k
 IsCommandFailure (command.Promise bad) f = f ≡ Promise bad
+IsCommandFailure command.Ways f = f ≡ Ways
 IsCommandFailure command.Memory f = f ≡ Memory
 
 -- at most n known bytes were taken
@@ -227,7 +229,7 @@ pub record IsShownText (showing : Showing) (text answer : List ℕ) : Type 0 whe
   pub shown : List Shown
   pub packed : AreShown showing program shown
   pub bounded : AreBounded program shown
-  pub drawn : answer ≡ drawing showing shown
+  pub drawn : answer ≡ drawing showing text shown
 
 -- the machine after a setting
 abbrev pub with_setting : Machine → Given → Machine
@@ -400,7 +402,7 @@ IsTextAnswer (Verdicts form) NotSame text answer = IsCheck form text false answe
 IsTextAnswer (LoopVerdicts trips apart) Done text answer = IsLoopCheck trips apart text true answer
 IsTextAnswer (LoopVerdicts trips apart) NotSame text answer = IsLoopCheck trips apart text false answer
 IsTextAnswer (LoopListing verbose packing trips apart) (Looped told None) text answer = IsLoopListing verbose packing trips apart told.items text answer
-IsTextAnswer (LoopPicture packing trips apart) Done text answer = IsLoopPicture packing trips apart text answer
+IsTextAnswer (LoopPicture drawing packing trips apart) Done text answer = IsLoopPicture drawing packing trips apart text answer
 IsTextAnswer (LoopReport verbose packing trips apart course settings) (Looped told has) text answer =
     IsLoopReport verbose packing trips apart course settings told.items has text answer
 IsTextAnswer _ _ text answer = ⊥
@@ -500,7 +502,7 @@ Documents (Verdicts form) NotSame text told is answer = IsCheckDocument is.progr
 Documents (LoopVerdicts trips apart) Done text told is answer = IsLoopsDocument trips apart is.program is.packets answer true is.plain
 Documents (LoopVerdicts trips apart) NotSame text told is answer = IsLoopsDocument trips apart is.program is.packets answer false is.plain
 Documents (LoopListing verbose packing trips apart) outcome text told is answer = answer ≡ lines_document (codes "pack") told
-Documents (LoopPicture packing trips apart) outcome text told is answer = answer ≡ lines_document (codes "show") told
+Documents (LoopPicture drawing packing trips apart) outcome text told is answer = answer ≡ lines_document (codes "show") told
 Documents (LoopReport verbose packing trips apart course settings) (Looped lines has) text told is answer =
     IsFlightDocument (codes "run") is.flying is.begins.labels is.first settings course is.outcome told is.flown answer
 Documents _ _ text told is answer = ⊥
@@ -526,7 +528,7 @@ IsRefusedText (Document ask) text message = IsRefusedText ask text message
 IsRefusedText (Verdicts form) text message = IsNoCheck form text message
 IsRefusedText (LoopVerdicts trips apart) text message = IsNoLoopCheck trips text message
 IsRefusedText (LoopListing verbose packing trips apart) text message = IsUnlooped trips text message
-IsRefusedText (LoopPicture packing trips apart) text message = IsUnlooped trips text message
+IsRefusedText (LoopPicture drawing packing trips apart) text message = IsUnlooped trips text message
 IsRefusedText (LoopReport verbose packing trips apart course settings) text message =
     IsUnlooped trips text message ⊎ IsUnread packing trips apart text message
 IsRefusedText _ text message = IsNoProgram text message
@@ -570,10 +572,14 @@ IsBadSetting words message = (k : ℕ) × HasBadSetting words k × (message ≡ 
 abbrev pub IsBadPromise : List Text → List ℕ → Type 0
 IsBadPromise words message = (bad : BadPromise) × HasBadPromise words bad × (message ≡ promise_message bad)
 
-abbrev pub IsBadWord : List Text → List ℕ → Type 0
-IsBadWord words message = IsBadSetting words message ⊎ IsBadPromise words message
+-- two ways to tell the same are named, which exclude each other
+abbrev pub AreTwoWays : List Text → List ℕ → Type 0
+AreTwoWays words message = HasTwoWays words × (message ≡ ways_message)
 
--- The words ask for nothing: clap doesn't take them, or a setting or a promise is bad, and that is told.
+abbrev pub IsBadWord : List Text → List ℕ → Type 0
+IsBadWord words message = IsBadSetting words message ⊎ IsBadPromise words message ⊎ AreTwoWays words message
+
+-- The words ask for nothing: clap doesn't take them, two ways are named, or a setting or a promise is bad, and that is told.
 abbrev pub AsksNothing : Telling → List Text → Option (List ℕ) → Option (List ℕ) → Type 0
 AsksNothing Told words old new = IsUnknown words ⊎ TellsOf Told (IsBadWord words) old new
 

@@ -14,21 +14,21 @@ use Rattle.c62_answer.specs.Drawing.{drawing}
 abbrev pub details_of : Showing → Details
 details_of showing = record { why = showing.why; registers = showing.registers }
 
--- This is the picture of these packets as they stand. What is told of each block is told of a serial block of which it is a schedule;
+-- This is the picture of these packets as they stand in a text. What is told of each block is told of a serial block of which it is a schedule;
 -- so what its head tells of shorter schedules is true.
-pub record IsDrawn (showing : Showing) (packets : List Packed) (answer : List ℕ) : Type 0 where
+pub record IsDrawn (showing : Showing) (packets : List Packed) (text answer : List ℕ) : Type 0 where
   pub shown : List Shown
   pub standing : AllZip (IsStanding (details_of showing)) packets shown
-  pub drawn : answer ≡ drawing showing shown
+  pub drawn : answer ≡ drawing showing text shown
 
 -- the text is a listing, and this the picture of its packets
 pub record IsShownListing (showing : Showing) (text answer : List ℕ) : Type 0 where
   pub packets : List Packed
   pub read : IsRead text packets
-  pub drawn : IsDrawn showing packets answer
+  pub drawn : IsDrawn showing packets text answer
 
 -- the text is adopted as packets as it stands, and this is their picture
 pub record IsShownPackets (showing : Showing) (text answer : List ℕ) : Type 0 where
   pub packets : List Packed
   pub adopted : IsAdopted false text packets 0
-  pub drawn : IsDrawn showing packets answer
+  pub drawn : IsDrawn showing packets text answer

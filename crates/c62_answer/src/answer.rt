@@ -6,7 +6,7 @@ ghost use Rattle.c62_packet.specs.Packets.{is_closed};
 ghost use Rattle.c62_show.specs.Picture.{picture};
 ghost use Rattle.c62_show.specs.Summary.{summary};
 ghost use Rattle.c62_command.specs.CommandLine.{Listing, Picture, SerialReport, PacketReport, StandingReport, Adoption, Document, ask_of, ask_told};
-ghost use Rattle.c62_answer.specs.Drawing.{drawing};
+ghost use Rattle.c62_answer.specs.Drawing.{columns, drawing};
 ghost use Rattle.c62_answer.specs.Run.{added_of, Gives, GivesProgram, limit_of, most_of};
 ghost use Rattle.c62_answer.specs.declared.parting.TheConstants.{MOST_BYTES};
 
@@ -34,6 +34,7 @@ use c62_command::{Command, Form, Packing, Rendering, Request, Showing, Start};
 use c62_listing::list;
 use c62_op::Reg;
 use c62_packet::Packets;
+use c62_page::page;
 use c62_read::{Program, read_program};
 use c62_show::{Shown, picture, summary};
 use std::alloc::{AllocError, Global};
@@ -58,17 +59,29 @@ fn listing_of(alloc: Global, packets: &Packets) -> Result<Vec<u8>, AllocError>
 }
 
 /// The picture of blocks, or their heads alone.
-pub(crate) fn picture_of(
-    alloc: Global,
-    showing: Showing,
-    shown: &[Shown],
-) -> Result<Vec<u8>, AllocError>
-    ensures { IfOk result (λ text. text.items ≡ drawing showing shown.now) }
+fn columns(alloc: Global, heads: bool, shown: &[Shown]) -> Result<Vec<u8>, AllocError>
+    ensures { IfOk result (λ drawn. drawn.items ≡ columns heads shown.now) }
 {
-    if showing.summary {
+    if heads {
         Ok(summary(alloc, shown)?.into_bytes())
     } else {
         Ok(picture(alloc, shown)?.into_bytes())
+    }
+}
+
+/// The picture of blocks of a text, or their heads alone, or a page of them.
+pub(crate) fn picture_of(
+    alloc: Global,
+    showing: Showing,
+    text: &[u8],
+    shown: &[Shown],
+) -> Result<Vec<u8>, AllocError>
+    ensures { IfOk result (λ drawn. drawn.items ≡ drawing showing text.now shown.now) }
+{
+    if showing.page {
+        page(alloc, text, shown)
+    } else {
+        columns(alloc, showing.summary, shown)
     }
 }
 
@@ -93,7 +106,7 @@ fn show_by_turns(alloc: Global, text: &[u8], showing: Showing) -> Result<Reply, 
     let program = program_of(alloc, text)?;
     let shown = shown_by_turns(alloc, program, showing)?;
     Ok(Reply {
-        text: picture_of(alloc, showing, &shown)?,
+        text: picture_of(alloc, showing, text, &shown)?,
         outcome: Outcome::Done,
     })
 }
@@ -142,7 +155,7 @@ fn show_by_workers<H: AllocGlobal + Threads + Wait + Sync>(
     let program = program_of(rt.alloc(), text)?;
     let shown = shown_by_workers(rt, program, showing)?;
     Ok(Reply {
-        text: picture_of(rt.alloc(), showing, &shown)?,
+        text: picture_of(rt.alloc(), showing, text, &shown)?,
         outcome: Outcome::Done,
     })
 }
@@ -240,7 +253,7 @@ fn answer<H: AllocGlobal + Threads + Wait + Sync>(
         Request::Check(form) => verdicts(rt.alloc(), *form, text),
         Request::CheckLoops(promises) => loop_verdicts(rt.alloc(), promises, text),
         Request::PackLoops(looping) => loop_listing(rt, text, looping),
-        Request::ShowLoops(looping) => loop_picture(rt, text, looping),
+        Request::ShowLoops(looping, drawing) => loop_picture(rt, text, looping, *drawing),
         Request::RunLoops(looping, flight) => loop_report(rt, text, looping, flight),
     }
 }
@@ -266,7 +279,9 @@ fn document<H: AllocGlobal + Threads + Wait + Sync>(
         Request::Check(form) => verdicts_document(rt.alloc(), *form, text),
         Request::CheckLoops(promises) => loop_verdicts_document(rt.alloc(), promises, text),
         Request::PackLoops(looping) => loop_listing_document(rt, text, looping),
-        Request::ShowLoops(looping) => loop_picture_document(rt, text, looping),
+        Request::ShowLoops(looping, drawing) => {
+            loop_picture_document(rt, text, looping, *drawing)
+        }
         Request::RunLoops(looping, flight) => loop_report_document(rt, text, looping, flight),
     }
 }
@@ -314,7 +329,7 @@ fn limit_of(request: &Request) -> usize
         Request::Pack(_) | Request::Show(_) | Request::Run(_, _) | Request::Serial(_, _) => {
             c62_read::MOST_BYTES
         }
-        Request::PackLoops(_) | Request::ShowLoops(_) | Request::RunLoops(_, _) => {
+        Request::PackLoops(_) | Request::ShowLoops(_, _) | Request::RunLoops(_, _) => {
             c62_read::MOST_BYTES
         }
     }

@@ -22,7 +22,7 @@ use c62_adopt::adopt;
 use c62_adopt::laws::texts_that_stand_lack_nothing;
 use c62_check::laws::checked_packets_are_serial;
 use c62_check_loops::first_loopless;
-use c62_command::{Adopting, Form, Looping, Packing, Promises, Showing};
+use c62_command::{Adopting, Drawing, Form, Looping, Packing, Promises, Showing};
 use c62_json_adopt::{Drained, adopted_document};
 use c62_json_check::check_document;
 use c62_json_lines::lines_document;
@@ -245,10 +245,11 @@ pub(crate) fn loop_picture_document<H: AllocGlobal + Threads + Wait + Sync>(
     rt: &H,
     text: &[u8],
     looping: &Looping,
+    drawing: Drawing,
 ) -> Result<Reply, Failure>
-    ensures { Gives (Document (LoopPicture looping.now.packing (map trips_of looping.now.promises.trips.items) looping.now.promises.apart.items)) text.now result }
+    ensures { Gives (Document (LoopPicture drawing looping.now.packing (map trips_of looping.now.promises.trips.items) looping.now.promises.apart.items)) text.now result }
 {
-    match loop_picture(rt, text, looping) {
+    match loop_picture(rt, text, looping, drawing) {
         Ok(reply) => Ok(lines_reply(rt.alloc(), "show", reply)?),
         Err(failure) => Err(failure),
     }

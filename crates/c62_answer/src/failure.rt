@@ -42,6 +42,8 @@ pub enum Failure {
     Setting(usize),
     /// This promise says nothing.
     Promise(BadPromise),
+    /// The words name two ways to tell the same, which exclude each other.
+    Ways,
     /// Memory ran out.
     Memory,
     /// The reader failed.
@@ -62,6 +64,7 @@ impl Failure {
             Failure::PacketsPart(_) | Failure::NoListing => 1,
             Failure::RowsPart(_) | Failure::NoLoop(_) => 1,
             Failure::Words(_) | Failure::Setting(_) | Failure::Promise(_) => 2,
+            Failure::Ways => 2,
             Failure::Memory => 3,
             Failure::Input | Failure::Output => 4,
         }
@@ -179,6 +182,7 @@ impl From<CommandError> for Failure {
             CommandError::Words(error) => Failure::Words(error),
             CommandError::Setting(number) => Failure::Setting(number),
             CommandError::Promise(bad) => Failure::Promise(bad),
+            CommandError::Ways => Failure::Ways,
             CommandError::Memory => Failure::Memory,
         }
     }

@@ -160,6 +160,7 @@ pub fn report<E: Write>(errors: &mut E, failure: &Failure) -> Result<(), Refused
         Failure::Words(error) => show(errors, error),
         Failure::Setting(number) => tell_setting(errors, *number),
         Failure::Promise(bad) => tell_promise(errors, *bad),
+        Failure::Ways => write_whole(errors, b"words: bad\n"),
         Failure::Memory => write_whole(errors, b"memory\n"),
         Failure::Input => write_whole(errors, b"input\n"),
         Failure::Output => write_whole(errors, b"output\n"),

@@ -9,6 +9,7 @@ ghost use Rattle.c62_check_loops.specs.Granted.{first_loopless};
 ghost use Rattle.c62_command.specs.CommandLine.{LoopListing, LoopPicture, LoopReport};
 ghost use Rattle.c62_command.specs.Promises.{trips_of};
 ghost use Rattle.c62_command.specs.declared.command.Packing.{Packing as Packed};
+ghost use Rattle.c62_answer.specs.Drawing.{loop_drawing};
 ghost use Rattle.c62_answer.specs.Looped.{IsLooped, told_lines};
 ghost use Rattle.c62_answer.specs.Run.{Gives, IsAnswer, RefusesLooped};
 ghost use Rattle.c62_answer.specs.Schedule.{AreScheduled};
@@ -20,8 +21,9 @@ use crate::failure::Failure;
 use crate::outcome::{Outcome, Reply};
 use crate::schedule::{packets_by_turns, packets_by_workers};
 use c62_check_loops::first_loopless;
-use c62_command::{Flight, Looping, Packing, Promises};
+use c62_command::{Drawing, Flight, Looping, Packing, Promises};
 use c62_packet::Packets;
+use c62_page_loops::loops_page;
 use c62_pipeline::{Pipelining, kernels, loop_lines, pipeline};
 use c62_read::Program;
 use c62_rows::{Begun, read_from};
@@ -143,15 +145,31 @@ pub(crate) fn loop_listing<H: AllocGlobal + Threads + Wait + Sync>(
     }
 }
 
-/// The picture of the loops of these packets.
-fn drawn(alloc: Global, looped: &Looped) -> Result<Reply, AllocError>
-    ensures { (packing : Packed) (trips : List (Name × ℕ)) (apart : List Register) (text : List ℕ)
-        → IsLooped packing trips apart text looped.now.program looped.now.written
-        → IfOk result (λ reply. IsAnswer (LoopPicture packing trips apart) reply.outcome text reply.text.items) }
+/// What became of the loops of a text, and their kernels, drawn so.
+fn loop_drawing(
+    alloc: Global,
+    drawing: Drawing,
+    text: &[u8],
+    looped: &Looped,
+) -> Result<Vec<u8>, AllocError>
+    ensures { IfOk result (λ drawn. drawn.items ≡ loop_drawing drawing text.now looped.now.program looped.now.written) }
 {
-    let text = kernels(alloc, looped.program.blocks(), &looped.written)?;
+    match drawing {
+        Drawing::Columns => {
+            Ok(kernels(alloc, looped.program.blocks(), &looped.written)?.into_bytes())
+        }
+        Drawing::Page => loops_page(alloc, text, looped.program.blocks(), &looped.written),
+    }
+}
+
+/// The picture of the loops of these packets of a text.
+fn drawn(alloc: Global, drawing: Drawing, text: &[u8], looped: &Looped) -> Result<Reply, AllocError>
+    ensures { (packing : Packed) (trips : List (Name × ℕ)) (apart : List Register)
+        → IsLooped packing trips apart text.now looped.now.program looped.now.written
+        → IfOk result (λ reply. IsAnswer (LoopPicture drawing packing trips apart) reply.outcome text.now reply.text.items) }
+{
     Ok(Reply {
-        text: text.into_bytes(),
+        text: loop_drawing(alloc, drawing, text, looped)?,
         outcome: Outcome::Done,
     })
 }
@@ -166,11 +184,12 @@ pub(crate) fn loop_picture<H: AllocGlobal + Threads + Wait + Sync>(
     rt: &H,
     text: &[u8],
     looping: &Looping,
+    drawing: Drawing,
 ) -> Result<Reply, Failure>
-    ensures { Gives (LoopPicture looping.now.packing (map trips_of looping.now.promises.trips.items) looping.now.promises.apart.items) text.now result }
+    ensures { Gives (LoopPicture drawing looping.now.packing (map trips_of looping.now.promises.trips.items) looping.now.promises.apart.items) text.now result }
 {
     match make_looped(rt, text, looping) {
-        Ok(looped) => Ok(drawn(rt.alloc(), &looped)?),
+        Ok(looped) => Ok(drawn(rt.alloc(), drawing, text, &looped)?),
         Err(failure) => Err(failure),
     }
 }

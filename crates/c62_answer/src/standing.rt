@@ -24,13 +24,18 @@ pub(crate) fn details_of(showing: Showing) -> Details
     }
 }
 
-/// The picture of packets as they stand.
-fn drawn(alloc: Global, packets: &Packets, showing: Showing) -> Result<Vec<u8>, AllocError>
-    ensures { IfOk result (λ text. IsDrawn showing packets.now text.items) }
+/// The picture of the packets of a text, as they stand.
+fn drawn(
+    alloc: Global,
+    packets: &Packets,
+    text: &[u8],
+    showing: Showing,
+) -> Result<Vec<u8>, AllocError>
+    ensures { IfOk result (λ drawn. IsDrawn showing packets.now text.now drawn.items) }
 {
     let shown = shown_as_they_stand(alloc, packets, details_of(showing))?;
-    let text = picture_of(alloc, showing, &shown)?;
-    Ok(text)
+    let drawn = picture_of(alloc, showing, text, &shown)?;
+    Ok(drawn)
 }
 
 /// The picture of the packets of a listing, as they stand.
@@ -39,7 +44,7 @@ pub(crate) fn show_listing(alloc: Global, text: &[u8], showing: Showing) -> Resu
 {
     let packets = packets_in(alloc, Form::Listed, text)?;
     Ok(Reply {
-        text: drawn(alloc, &packets, showing)?,
+        text: drawn(alloc, &packets, text, showing)?,
         outcome: Outcome::Done,
     })
 }
@@ -50,7 +55,7 @@ pub(crate) fn show_packets(alloc: Global, text: &[u8], showing: Showing) -> Resu
 {
     let packets = packets_in(alloc, Form::Written, text)?;
     Ok(Reply {
-        text: drawn(alloc, &packets, showing)?,
+        text: drawn(alloc, &packets, text, showing)?,
         outcome: Outcome::Done,
     })
 }

@@ -14,7 +14,8 @@ use Rattle.c62_command.specs.Promises.{IsBadPromise, all_trips, apart_of, trips_
 use Rattle.c62_command.proofs.PromiseLemmas.{none_said}
 use Rattle.c62_command.specs.CommandLine.{Ask, Listing, HasBadPromise, HasBadPromiseIn, HasBadSetting, HasFirstBad}
 use Rattle.c62_command.specs.CommandLine.{IsRefusal, IsRefusalIn, IsUnknown, Adoption, loops_asked, ask_in, asked}
-use Rattle.c62_command.specs.CommandLine.{rendered, rendering_in, rendering_of, what_in}
+use Rattle.c62_command.specs.CommandLine.{HasTwoWays}
+use Rattle.c62_command.specs.CommandLine.{has_two_ways, names_two_ways, rendered, rendering_in, rendering_of, what_in}
 use Rattle.c62_command.specs.declared.command.Rendering.{Rendering}
 use Rattle.c62_command.specs.CommandLine.{check_asked, is_set, plain_asked, plain_packing}
 use Rattle.c62_command.specs.CommandLine.{packing_of, promised_asked, reaching, report_asked, serial_asked}
@@ -165,22 +166,46 @@ pub none_told : (found : Option (Text × List Row)) (ask : Ask) → found ≡ No
 unfolding ask_in
 none_told found ask none is = rw (none, is) refl
 
+-- what is asked for where no two ways are named
+one_way : (found : Option (Text × List Row)) → has_two_ways found ≡ false
+    → ask_in found ≡ option_map (rendered (rendering_in found)) (what_in found)
+unfolding ask_in
+one_way found one = rw one refl
+
+-- where nothing is asked for, nothing is, in whichever way it is to be told
+never : (two : Bool) (tell : Ask → Ask) → (if two then None else option_map tell None) ≡ None
+never true tell = refl
+never false tell = refl
+
+none_in : (found : Option (Text × List Row)) → what_in found ≡ None → ask_in found ≡ None
+unfolding ask_in
+none_in found none =
+    ap (λ (what : Option Ask). if has_two_ways found then None
+    else option_map (rendered (rendering_in found)) what) none
+    ∙ never (has_two_ways found) (rendered (rendering_in found))
+
 -- what a subcommand asks for, told so
 pub told_so : (name : Text) (rows : List Row) (ask : Ask) (rendering : Rendering)
-    → what_in (Some (name, rows)) ≡ Some ask → rendering ≡ rendering_of rows
+    → names_two_ways rows ≡ false → what_in (Some (name, rows)) ≡ Some ask → rendering ≡ rendering_of rows
     → ask_in (Some (name, rows)) ≡ Some (rendered rendering ask)
-unfolding ask_in
-told_so name rows ask rendering is same =
-    ap (option_map (rendered (rendering_of rows))) is
+told_so name rows ask rendering one is same =
+    one_way (Some (name, rows)) one
+    ∙ ap (option_map (rendered (rendering_of rows))) is
     ∙ ap (λ (r : Rendering). Some (rendered r ask)) (sym same)
 
 pub asked-bad-promise : (words : List Text) (bad : BadPromise) → HasBadPromise words bad → asked words ≡ None
-unfolding asked ask_in
+unfolding asked
 asked-bad-promise [] bad e = absurd (omega (arith, e.0))
 asked-bad-promise (word ∷ words) bad e =
     ap (λ (kinds : Kinds). unless_fault kinds (ask_in (subcommand_of tool_app (word ∷ words)))) e.1
-    ∙ ap (option_map (rendered (rendering_in (subcommand_of tool_app (word ∷ words)))))
-    (no_loops_in (subcommand_of tool_app (word ∷ words)) bad e.2)
+    ∙ none_in (subcommand_of tool_app (word ∷ words)) (no_loops_in (subcommand_of tool_app (word ∷ words)) bad e.2)
+
+pub asked-two-ways : (words : List Text) → HasTwoWays words → asked words ≡ None
+unfolding asked ask_in
+asked-two-ways [] e = absurd (omega (arith, e.0))
+asked-two-ways (word ∷ words) e =
+    ap (λ (kinds : Kinds). unless_fault kinds (ask_in (subcommand_of tool_app (word ∷ words)))) e.1
+    ∙ rw (e.2) refl
 
 -- why a subcommand asks for nothing is why the words do
 pub refused_in : {W : Type 0} (text : W → Text) (words : List W) (error : CommandError) → length words ≢ 0
@@ -190,12 +215,12 @@ refused_in text [] error some taken is = absurd (some refl)
 refused_in text (word ∷ words) (refused.Words e) some taken is = absurd is
 refused_in text (word ∷ words) (refused.Setting k) some taken is = (omega arith, taken, is)
 refused_in text (word ∷ words) (refused.Promise bad) some taken is = (omega arith, taken, is)
+refused_in text (word ∷ words) refused.Ways some taken is = (omega arith, taken, is)
 refused_in text (word ∷ words) refused.Memory some taken is = tt
 
 pub asked-bad : (words : List Text) (k : ℕ) → HasBadSetting words k → asked words ≡ None
-unfolding asked ask_in
+unfolding asked
 asked-bad [] k e = absurd (omega (arith, e.0))
 asked-bad (word ∷ words) k e =
     ap (λ (kinds : Kinds). unless_fault kinds (ask_in (subcommand_of tool_app (word ∷ words)))) e.1
-    ∙ ap (option_map (rendered (rendering_in (subcommand_of tool_app (word ∷ words)))))
-    (nothing_in (subcommand_of tool_app (word ∷ words)) k e.2)
+    ∙ none_in (subcommand_of tool_app (word ∷ words)) (nothing_in (subcommand_of tool_app (word ∷ words)) k e.2)

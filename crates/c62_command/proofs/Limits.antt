@@ -81,7 +81,7 @@ blocks_checked : Each (AreChecked (codes "blocks") IsBlocks) (built tool_app).su
 blocks_checked =
     (other ⨾ other ⨾ other ⨾ other ⨾ other ⨾ other ⨾ other ⨾ other ⨾ other ⨾ other ⨾ tt)
     ⨾ (other ⨾ other ⨾ other ⨾ other ⨾ other ⨾ other ⨾ other ⨾ other ⨾ other ⨾ other ⨾ other ⨾ other ⨾ other
-    ⨾ other ⨾ tt)
+    ⨾ other ⨾ other ⨾ tt)
     ⨾ (other ⨾ other ⨾ other ⨾ other ⨾ other ⨾ other ⨾ other ⨾ other ⨾ other ⨾ number_in 1 1000000 ⨾ other
     ⨾ other ⨾ other ⨾ other ⨾ other ⨾ tt)
     ⨾ (other ⨾ number_in 1 1000000 ⨾ other ⨾ other ⨾ other ⨾ other ⨾ other ⨾ tt)
@@ -96,7 +96,7 @@ eject_checked : Each (AreChecked (codes "eject") IsBudget) (built tool_app).subs
 eject_checked =
     (other ⨾ number_in 0 1000 ⨾ other ⨾ other ⨾ other ⨾ other ⨾ other ⨾ other ⨾ other ⨾ other ⨾ tt)
     ⨾ (other ⨾ number_in 0 1000 ⨾ other ⨾ other ⨾ other ⨾ other ⨾ other ⨾ other ⨾ other ⨾ other ⨾ other ⨾ other
-    ⨾ other ⨾ other ⨾ tt)
+    ⨾ other ⨾ other ⨾ other ⨾ tt)
     ⨾ (other ⨾ number_in 0 1000 ⨾ other ⨾ other ⨾ other ⨾ other ⨾ other ⨾ other ⨾ other ⨾ other ⨾ other ⨾ other
     ⨾ other ⨾ other ⨾ other ⨾ tt)
     ⨾ (other ⨾ other ⨾ other ⨾ other ⨾ other ⨾ other ⨾ other ⨾ tt)
@@ -111,7 +111,7 @@ cycles_checked : Each (AreChecked (codes "cycles") IsCycles) (built tool_app).su
 cycles_checked =
     (other ⨾ other ⨾ other ⨾ other ⨾ other ⨾ other ⨾ other ⨾ other ⨾ other ⨾ other ⨾ tt)
     ⨾ (other ⨾ other ⨾ other ⨾ other ⨾ other ⨾ other ⨾ other ⨾ other ⨾ other ⨾ other ⨾ other ⨾ other ⨾ other
-    ⨾ other ⨾ tt)
+    ⨾ other ⨾ other ⨾ tt)
     ⨾ (other ⨾ other ⨾ other ⨾ other ⨾ other ⨾ other ⨾ other ⨾ other ⨾ number_in 1 1000000000 ⨾ other ⨾ other
     ⨾ other ⨾ other ⨾ other ⨾ other ⨾ tt)
     ⨾ (other ⨾ other ⨾ other ⨾ other ⨾ other ⨾ other ⨾ other ⨾ tt)
@@ -126,7 +126,7 @@ search_checked : Each (AreChecked (codes "search") IsChoices) (built tool_app).s
 search_checked =
     (other ⨾ other ⨾ other ⨾ number_in 0 10000 ⨾ other ⨾ other ⨾ other ⨾ other ⨾ other ⨾ other ⨾ tt)
     ⨾ (other ⨾ other ⨾ other ⨾ number_in 0 10000 ⨾ other ⨾ other ⨾ other ⨾ other ⨾ other ⨾ other ⨾ other ⨾ other
-    ⨾ other ⨾ other ⨾ tt)
+    ⨾ other ⨾ other ⨾ other ⨾ tt)
     ⨾ (other ⨾ other ⨾ other ⨾ number_in 0 10000 ⨾ other ⨾ other ⨾ other ⨾ other ⨾ other ⨾ other ⨾ other ⨾ other
     ⨾ other ⨾ other ⨾ other ⨾ tt)
     ⨾ (other ⨾ other ⨾ other ⨾ other ⨾ other ⨾ other ⨾ other ⨾ tt)

@@ -1,5 +1,5 @@
 -- The command line, as clap reads it.
-use Rattle.std.specs.Prelude.{◌≡◌, ◌≢◌, ◌⊎◌, ◌<◌, ◌≤◌, ℕ, pos, ◌^◌, Bool, true, false, ◌&&◌, nat_lt, length, List, [], ◌∷◌, map, Option, Some, None, unwrap_or, option_map, option_and_then, codes, if◌then◌else◌}
+use Rattle.std.specs.Prelude.{◌≡◌, ◌≢◌, ◌⊎◌, ◌<◌, ◌≤◌, ℕ, pos, ◌^◌, Bool, true, false, ◌&&◌, ◌||◌, nat_lt, length, List, [], ◌∷◌, map, Option, Some, None, unwrap_or, option_map, option_and_then, codes, if◌then◌else◌}
 use Rattle.std.specs.Str.{bytes_eq}
 use Rattle.std.specs.Str.Parse.{digits_value, signed_digits_value, without_leading_plus}
 use Rattle.std.specs.Option.{option_map_or}
@@ -23,6 +23,8 @@ use Rattle.c62_command.specs.declared.flight.FlightCourse.{FlightCourse}
 use Rattle.c62_command.specs.declared.command.Command.{Command}
 use Rattle.c62_command.specs.declared.command.Rendering.{Rendering}
 use Rattle.c62_command.specs.declared.command.Rendering.TheVariants.{Text as InText, Json as InJson}
+use Rattle.c62_command.specs.declared.command.Drawing.{Drawing}
+use Rattle.c62_command.specs.declared.command.Drawing.TheVariants.{Columns, Page}
 use Rattle.c62_command.specs.declared.command.Form.{Form}
 use Rattle.c62_command.specs.declared.command.Form.TheVariants.{Listed, Written}
 use Rattle.c62_command.specs.declared.command.CommandError.{CommandError}
@@ -109,6 +111,10 @@ strict_rule = record (new_rule (codes "strict")) { long = Some (codes "strict");
 abbrev pub json_rule : Rule
 json_rule = record (new_rule (codes "json")) { long = Some (codes "json"); action = Some SetTrue }
 
+-- `--html`
+abbrev pub html_rule : Rule
+html_rule = record (new_rule (codes "html")) { long = Some (codes "html"); action = Some SetTrue }
+
 -- `[SETTING]..`
 abbrev pub settings_rule : Rule
 settings_rule = record (new_rule (codes "settings")) { value_names = 1; action = Some Append }
@@ -164,11 +170,14 @@ pack_app = with_rule (with_told_pipeline (with_packing (new_app (codes "pack")))
 abbrev pub with_forms : App → App
 with_forms app = with_rule (with_rule app listing_rule) packets_rule
 
+abbrev pub with_renderings : App → App
+with_renderings app = with_rule (with_rule app json_rule) html_rule
+
 abbrev pub with_details : App → App
-with_details app = with_rule (with_rule (with_rule (with_rule app why_rule) registers_rule) summary_rule) json_rule
+with_details app = with_renderings (with_rule (with_rule (with_rule app why_rule) registers_rule) summary_rule)
 
 -- `show [--turns] [--eject N] [--shortest] [--search N] [--pipeline] [--trips L=N].. [--apart REG,REG,..] [--listing] [--packets] [--why]
--- [--registers] [--summary] [--json]`
+-- [--registers] [--summary] [--json] [--html]`
 abbrev pub show_app : App
 show_app = with_details (with_forms (with_pipeline (with_packing (new_app (codes "show")))))
 
@@ -255,8 +264,8 @@ pub data Ask : Type 0 where
   LoopVerdicts : (trips : List (Text × ℕ)) → (apart : List Reg) → Ask
   -- the packets of a text, packed so, with its loops pipelined where as much is promised of these; and what became of each loop
   LoopListing : (verbose : Bool) → Packing → (trips : List (Text × ℕ)) → (apart : List Reg) → Ask
-  -- the picture of the loops of such packets
-  LoopPicture : Packing → (trips : List (Text × ℕ)) → (apart : List Reg) → Ask
+  -- the picture of the loops of such packets, drawn so
+  LoopPicture : Drawing → Packing → (trips : List (Text × ℕ)) → (apart : List Reg) → Ask
   -- the report of a run of such packets on this course, from a state with these settings; and what became of each loop
   LoopReport : (verbose : Bool) → Packing → (trips : List (Text × ℕ)) → (apart : List Reg) → FlightCourse → List Setting → Ask
   -- what such an answer tells, as a document
@@ -284,7 +293,7 @@ ask_of (Adopt adopting) = reaching (option_map (λ name. name.items) adopting.fr
 ask_of (Check form) = Verdicts form
 ask_of (CheckLoops promises) = LoopVerdicts (map trips_of promises.trips.items) promises.apart.items
 ask_of (PackLoops looping) = LoopListing looping.verbose looping.packing (map trips_of looping.promises.trips.items) looping.promises.apart.items
-ask_of (ShowLoops looping) = LoopPicture looping.packing (map trips_of looping.promises.trips.items) looping.promises.apart.items
+ask_of (ShowLoops looping drawing) = LoopPicture drawing looping.packing (map trips_of looping.promises.trips.items) looping.promises.apart.items
 ask_of (RunLoops looping flight) =
     LoopReport looping.verbose looping.packing (map trips_of looping.promises.trips.items) looping.promises.apart.items flight.course
     flight.settings.items
@@ -341,12 +350,21 @@ packing_of rows = record {
   choices = choices_of rows;
 }
 
+-- a page is asked for
+abbrev pub is_page : List Row → Bool
+is_page rows = is_set (codes "html") rows
+
+abbrev pub drawing_of : List Row → Drawing
+drawing_of rows = if is_page rows then Page else Columns
+
+-- a page tells why, and of the registers, without being asked
 abbrev pub showing_of : List Row → Showing
 showing_of rows = record {
   packing = packing_of rows;
-  why = is_set (codes "why") rows;
-  registers = is_set (codes "registers") rows;
+  why = is_set (codes "why") rows || is_page rows;
+  registers = is_set (codes "registers") rows || is_page rows;
   summary = is_set (codes "summary") rows;
+  page = is_page rows;
 }
 
 -- which picture is asked for: of serial text the packets are shown, and of other texts the schedule that stands there
@@ -412,7 +430,7 @@ check_asked rows =
 abbrev pub pipelined_asked : Text → List Row → (trips : List (Text × ℕ)) → (apart : List Reg) → Option Ask
 pipelined_asked name rows trips apart =
     if bytes_eq name (codes "pack") then Some (LoopListing (is_set (codes "verbose") rows) (packing_of rows) trips apart)
-    else (if bytes_eq name (codes "show") then Some (LoopPicture (packing_of rows) trips apart)
+    else (if bytes_eq name (codes "show") then Some (LoopPicture (drawing_of rows) (packing_of rows) trips apart)
     else option_map (LoopReport (is_set (codes "verbose") rows) (packing_of rows) trips apart (flight_course_of rows)) (settings_of (setting_words rows)))
 
 -- the same where the promises are some
@@ -445,9 +463,17 @@ abbrev pub rendering_in : Option (Text × List Row) → Rendering
 rendering_in None = InText
 rendering_in (Some (name, rows)) = rendering_of rows
 
--- what is asked for, and how it is told
+-- two ways are named to tell the same: a page, and a document or the heads alone
+abbrev pub names_two_ways : List Row → Bool
+names_two_ways rows = is_page rows && (is_set (codes "json") rows || is_set (codes "summary") rows)
+
+abbrev pub has_two_ways : Option (Text × List Row) → Bool
+has_two_ways None = false
+has_two_ways (Some (name, rows)) = names_two_ways rows
+
+-- what is asked for, and how it is told: nothing where two ways are named, which exclude each other
 unfoldable pub ask_in : Option (Text × List Row) → Option Ask
-ask_in found = option_map (rendered (rendering_in found)) (what_in found)
+ask_in found = if has_two_ways found then None else option_map (rendered (rendering_in found)) (what_in found)
 
 abbrev pub unless_fault : Kinds → Option Ask → Option Ask
 unless_fault [] ask = ask
@@ -502,6 +528,10 @@ HasBadPromiseIn (Some (name, rows)) bad = HasBadPromiseAmong name rows bad
 abbrev pub HasBadPromise : List Text → BadPromise → Type 0
 HasBadPromise words bad = (0 < length words) × (fault_of tool_app words ≡ []) × HasBadPromiseIn (subcommand_of tool_app words) bad
 
+-- clap takes the words, and they name two ways to tell the same
+abbrev pub HasTwoWays : List Text → Type 0
+HasTwoWays words = (0 < length words) × (fault_of tool_app words ≡ []) × (has_two_ways (subcommand_of tool_app words) ≡ true)
+
 -- an error of clap that is no want of memory says that clap doesn't take the words
 abbrev pub IsBlame : List Text → Error → Type 0
 IsBlame words error = kind_of error ≢ OutOfMemory → fault_of tool_app words ≢ []
@@ -510,11 +540,13 @@ IsBlame words error = kind_of error ≢ OutOfMemory → fault_of tool_app words 
 abbrev pub IsUnknown : List Text → Type 0
 IsUnknown words = (0 < length words) × (fault_of tool_app words ≢ [])
 
--- why words ask for nothing: clap doesn't take them, or a setting or a promise is bad, unless memory ran out
+-- why words ask for nothing: clap doesn't take them, they name two ways to tell the same, or a setting or a promise is bad, unless memory
+-- ran out
 abbrev pub IsRefusal : CommandError → List Text → Type 0
 IsRefusal (refused.Words _) words = IsUnknown words
 IsRefusal (refused.Setting k) words = HasBadSetting words k
 IsRefusal (refused.Promise bad) words = HasBadPromise words bad
+IsRefusal refused.Ways words = HasTwoWays words
 IsRefusal refused.Memory words = Unit {0}
 
 -- what a parse that failed is
@@ -527,6 +559,7 @@ abbrev pub IsRefusalIn : Option (Text × List Row) → CommandError → Type 0
 IsRefusalIn found (refused.Words _) = ⊥
 IsRefusalIn found (refused.Setting k) = HasFirstBad found k
 IsRefusalIn found (refused.Promise bad) = HasBadPromiseIn found bad
+IsRefusalIn found refused.Ways = has_two_ways found ≡ true
 IsRefusalIn found refused.Memory = Unit {0}
 
 -- why a check asks for nothing: only one of loops has promises

@@ -2,7 +2,7 @@
 
 ghost use Rattle.std.specs.Prelude.{◌≡◌, IfOk, false};
 ghost use Rattle.clap.specs.Words.{app_of, rule_of};
-ghost use Rattle.c62_command.specs.CommandLine.{turns_rule, eject_rule, blocks_rule, settings_rule, cycles_rule, from_rule, alone_rule, drain_rule, why_rule, registers_rule, listing_rule, packets_rule, with_forms, pack_app, show_app, run_app, serial_app, sim_app, exec_app, adopt_app, check_app, bare_app, listing_app, packing_app, running_app, tool_app, with_packing, with_start, IsLocal, profile_rule, strict_rule, with_reach, with_flight, summary_rule, with_details, shortest_rule, search_rule, verbose_rule, json_rule, with_pipelined_run, with_told_pipeline, with_report};
+ghost use Rattle.c62_command.specs.CommandLine.{turns_rule, eject_rule, blocks_rule, settings_rule, cycles_rule, from_rule, alone_rule, drain_rule, why_rule, registers_rule, listing_rule, packets_rule, with_forms, pack_app, show_app, run_app, serial_app, sim_app, exec_app, adopt_app, check_app, bare_app, listing_app, packing_app, running_app, tool_app, with_packing, with_start, IsLocal, profile_rule, strict_rule, with_reach, with_flight, summary_rule, with_details, with_renderings, shortest_rule, search_rule, verbose_rule, json_rule, html_rule, with_pipelined_run, with_told_pipeline, with_report};
 
 use crate::checking::{apart_option, with_loops, with_pipeline};
 use clap::{Arg, ArgAction, Command, value_parser};
@@ -229,6 +229,16 @@ fn json_flag<'a>(alloc: Global) -> Arg<'a>
         .help("Writes the same as a JSON document")
 }
 
+fn html_flag<'a>(alloc: Global) -> Arg<'a>
+    ensures rule { rule_of result ≡ html_rule }
+    ensures local { result.global ≡ false }
+{
+    Arg::new(alloc, "html")
+        .long("html")
+        .action(ArgAction::SetTrue)
+        .help("Writes a page for a browser, with why and the registers")
+}
+
 fn settings_words<'a>(alloc: Global) -> Arg<'a>
     ensures rule { rule_of result ≡ settings_rule }
     ensures local { result.global ≡ false }
@@ -314,16 +324,24 @@ fn with_forms<'a>(alloc: Global, command: Command<'a>) -> Result<Command<'a>, Al
     command.arg(listing_flag(alloc))?.arg(packets_flag(alloc))
 }
 
+/// The command with how a picture is told: as a document, or as a page.
+fn with_renderings<'a>(alloc: Global, command: Command<'a>) -> Result<Command<'a>, AllocError>
+    ensures app { IfOk result (λ c. app_of c ≡ with_renderings (app_of command.entry)) }
+    ensures local { IsLocal command.entry → IfOk result IsLocal }
+{
+    command.arg(json_flag(alloc))?.arg(html_flag(alloc))
+}
+
 /// The command with what is told of each block beside its picture, or that its head stands alone, and with how it is told.
 fn with_details<'a>(alloc: Global, command: Command<'a>) -> Result<Command<'a>, AllocError>
     ensures app { IfOk result (λ c. app_of c ≡ with_details (app_of command.entry)) }
     ensures local { IsLocal command.entry → IfOk result IsLocal }
 {
-    command
+    let command = command
         .arg(why_flag(alloc))?
         .arg(registers_flag(alloc))?
-        .arg(summary_flag(alloc))?
-        .arg(json_flag(alloc))
+        .arg(summary_flag(alloc))?;
+    with_renderings(alloc, command)
 }
 
 fn pack_command<'a>(alloc: Global) -> Result<Command<'a>, AllocError>
@@ -346,7 +364,7 @@ fn show_command<'a>(alloc: Global) -> Result<Command<'a>, AllocError>
     let command = Command::new(alloc, "show")
         .about("Packs serial text and shows each block's schedule, and how short one can be")
         .override_usage(
-            "c62 show [--why] [--registers] [--summary] [--turns] [--eject <N>] [--shortest] [--search <N>] [--json] [-o <FILE>] [FILE]\n       c62 show --pipeline [--trips <L=N>]... [--apart <REG,REG,..>] [--json] [-o <FILE>] [FILE]\n       c62 show --listing|--packets [--why] [--registers] [--summary] [--json] [-o <FILE>] [FILE]",
+            "c62 show [--why] [--registers] [--summary] [--turns] [--eject <N>] [--shortest] [--search <N>] [--json|--html] [-o <FILE>] [FILE]\n       c62 show --pipeline [--trips <L=N>]... [--apart <REG,REG,..>] [--json|--html] [-o <FILE>] [FILE]\n       c62 show --listing|--packets [--why] [--registers] [--summary] [--json|--html] [-o <FILE>] [FILE]",
         )
         .after_help(ending!("c62 show --why kernel.s"));
     let command = with_pipeline(alloc, with_packing(alloc, command)?)?;

@@ -3,7 +3,7 @@
 ghost use Rattle.std.specs.Prelude.{◌≡◌, IfOk, IfErr, Some, false, map, [], codes, option_map};
 ghost use Rattle.std.specs.Str.{bytes_eq};
 ghost use Rattle.clap.specs.Words.{first_of, subcommand_of, subcommand_rows_of, fault_of};
-ghost use Rattle.c62_command.specs.CommandLine.{form_of, tool_app, is_set, blocks_of, cycles_of, budget_of, packing_of, showing_of, show_asked, found_rows, words_of, named_rows, ask_in, ask_of, ask_told, what_in, rendering_of, plain_packing, Listing, pipelined_asked, plain_asked, asked, IsBadIn, IsBlame, IsRefusal, IsWordsError, IsSettingError, IsPromiseError, IsRefusalIn, course_of, choices_of, asks_shortest, flight_course_of, report_asked, SerialReport};
+ghost use Rattle.c62_command.specs.CommandLine.{form_of, tool_app, is_set, blocks_of, cycles_of, budget_of, packing_of, showing_of, show_asked, found_rows, words_of, named_rows, ask_in, ask_of, ask_told, drawing_of, is_page, names_two_ways, what_in, rendering_of, plain_packing, Listing, pipelined_asked, plain_asked, asked, IsBadIn, IsBlame, IsRefusal, IsWordsError, IsSettingError, IsPromiseError, IsRefusalIn, course_of, choices_of, asks_shortest, flight_course_of, report_asked, SerialReport};
 ghost use Rattle.c62_command.specs.Promises.{IsPromiseErrorIn, all_trips, apart_of, trips_of, trips_words};
 ghost use Rattle.c62_command.specs.Settings.{AreSettings, IsBadAmong, settings_of};
 
@@ -47,6 +47,8 @@ pub struct Showing {
     pub registers: bool,
     /// Whether the head of each block is shown alone.
     pub summary: bool,
+    /// Whether it is shown as a page of HTML, with why and the registers.
+    pub page: bool,
 }
 
 /// How far a run goes, and what is told of it beside its report.
@@ -129,10 +131,19 @@ pub enum Request {
     CheckLoops(Promises),
     /// The packets of a serial text whose loops are pipelined.
     PackLoops(Looping),
-    /// The picture of the loops of such packets.
-    ShowLoops(Looping),
+    /// The picture of the loops of such packets, or a page of it.
+    ShowLoops(Looping, Drawing),
     /// The report of a run of such packets.
     RunLoops(Looping, Flight),
+}
+
+/// How a picture is drawn.
+#[derive(Clone, Copy, PartialEq, Eq, Debug)]
+pub enum Drawing {
+    /// In the columns of a terminal.
+    Columns,
+    /// As a page of HTML.
+    Page,
 }
 
 /// How what is asked for is told.
@@ -160,6 +171,8 @@ pub enum CommandError {
     Setting(usize),
     /// This promise says nothing.
     Promise(BadPromise),
+    /// Two ways are named to tell the same, which exclude each other.
+    Ways,
     /// Memory ran out.
     Memory,
 }
@@ -371,15 +384,34 @@ fn adopting_in(alloc: Global, matches: &ArgMatches<'_>) -> Result<Adopting, Allo
     })
 }
 
+/// Whether a page is asked for.
+fn is_page(matches: &ArgMatches<'_>) -> bool
+    ensures { result ≡ is_page (found_rows matches.now) }
+{
+    is_set(matches, "html")
+}
+
+/// How a picture is drawn, by the options of the subcommand.
+fn drawing_in(matches: &ArgMatches<'_>) -> Drawing
+    ensures { result ≡ drawing_of (found_rows matches.now) }
+{
+    if is_page(matches) {
+        Drawing::Page
+    } else {
+        Drawing::Columns
+    }
+}
+
 /// How blocks are shown, by the options of the subcommand.
 fn showing_in(matches: &ArgMatches<'_>) -> Showing
     ensures { result ≡ showing_of (found_rows matches.now) }
 {
     Showing {
         packing: packing_in(matches),
-        why: is_set(matches, "why"),
-        registers: is_set(matches, "registers"),
+        why: is_set(matches, "why") || is_page(matches),
+        registers: is_set(matches, "registers") || is_page(matches),
         summary: is_set(matches, "summary"),
+        page: is_page(matches),
     }
 }
 
@@ -504,7 +536,7 @@ fn pipelined_named(
         return Ok(Request::PackLoops(looping));
     }
     if name == "show" {
-        return Ok(Request::ShowLoops(looping));
+        return Ok(Request::ShowLoops(looping, drawing_in(found)));
     }
     let flight = loop_flight_in(alloc, found)?;
     Ok(Request::RunLoops(looping, flight))
@@ -552,12 +584,22 @@ fn rendering_found(matches: &ArgMatches<'_>) -> Rendering
     }
 }
 
+/// Whether two ways are named to tell the same.
+fn names_two_ways(matches: &ArgMatches<'_>) -> bool
+    ensures { result ≡ names_two_ways (found_rows matches.now) }
+{
+    is_page(matches) && (is_set(matches, "json") || is_set(matches, "summary"))
+}
+
 /// What any subcommand asks for, and how it is to be told.
 #[tactic(auto, using(crate::proofs::Asking::told_so))]
 fn command_named(alloc: Global, name: &str, found: &ArgMatches<'_>) -> Result<Command, CommandError>
     ensures ok { IfOk result (λ command. ask_in (named_rows name.now found.now) ≡ Some (ask_told command)) }
     ensures err { IfErr result (IsRefusalIn (named_rows name.now found.now)) }
 {
+    if names_two_ways(found) {
+        return Err(CommandError::Ways);
+    }
     Ok(Command {
         request: request_of(alloc, name, found)?,
         rendering: rendering_found(found),
@@ -580,8 +622,9 @@ fn command_in(alloc: Global, matches: &ArgMatches<'_>) -> Result<Command, Comman
 ///
 /// # Errors
 ///
-/// `Words` only where clap doesn't take the words, `Setting` only where clap takes them and that setting is the first bad one,
-/// `Promise` only where clap takes them and that promise is the first bad one, and `Memory` where memory ran out, which may come
+/// `Words` only where clap doesn't take the words, `Ways` only where clap takes them and they name two ways to tell the same,
+/// `Setting` only where clap takes them and that setting is the first bad one, `Promise` only where clap takes them and that promise
+/// is the first bad one, and `Memory` where memory ran out, which may come
 /// whatever the words are.
 pub fn command_of<'a, S: AsStr>(alloc: Global, words: &'a [S]) -> Result<Command, CommandError>
     ensures asked { IfOk result (λ command. asked (map S.text words.entry.now) ≡ Some (ask_told command)) }

@@ -52,7 +52,7 @@ fn counts_of(alloc: Global, request: &Request) -> Result<Vec<usize>, AllocError>
         | Request::Check(_)
         | Request::CheckLoops(_)
         | Request::PackLoops(_)
-        | Request::ShowLoops(_) => Ok(Vec::new(alloc)),
+        | Request::ShowLoops(_, _) => Ok(Vec::new(alloc)),
     }
 }
 

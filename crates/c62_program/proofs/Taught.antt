@@ -69,6 +69,10 @@ pub refused_promise : (wanted : Bool) (words : List Text) (bad : BadPromise) →
 refused_promise wanted words bad is = record
     { error = refused.Promise bad; known = λ same. cc; refused = is; taught = no_more wanted [] refl }
 
+pub refused_ways : (wanted : Bool) (words : List Text) → IsRefusal refused.Ways words → IsRefusedFor wanted words []
+refused_ways wanted words is = record
+    { error = refused.Ways; known = λ same. cc; refused = is; taught = no_more wanted [] refl }
+
 pub refused_words : (wanted : Bool) (words : List Text) (error : Error) → IsRefusal (refused.Words error) words
     → IsRefusedFor wanted words []
 refused_words wanted words error is = record

@@ -118,7 +118,7 @@ fn setting_told(
 }
 
 /// What words ask for; where they ask for nothing, they are refused.
-#[tactic(auto, using(crate::proofs::Taught::refused_setting, crate::proofs::Taught::refused_promise, crate::proofs::Taught::refused_words))]
+#[tactic(auto, using(crate::proofs::Taught::refused_setting, crate::proofs::Taught::refused_promise, crate::proofs::Taught::refused_ways, crate::proofs::Taught::refused_words))]
 fn asked_of(alloc: Global, wanted: bool, words: &[&str]) -> Result<Asked, AllocError>
     ensures { IfOk result (IsAsked wanted (map (λ word. word.now) words.now)) }
 {
@@ -129,6 +129,7 @@ fn asked_of(alloc: Global, wanted: bool, words: &[&str]) -> Result<Asked, AllocE
             alloc, wanted, words, number,
         )?)),
         Err(CommandError::Promise(_)) => Ok(Asked::Unknown(Vec::new(alloc))),
+        Err(CommandError::Ways) => Ok(Asked::Unknown(Vec::new(alloc))),
         Err(CommandError::Words(_)) => Ok(Asked::Unknown(Vec::new(alloc))),
     }
 }

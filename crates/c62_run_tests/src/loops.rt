@@ -22,7 +22,7 @@ const KERNEL: &str =
     "loop L 1 cycle 6 stages from 6 trips; no II is shorter\ncycle      .L1       .S1       .M1       .D1       .L2       .S2       .M2       .D2\n    0 2/5  ADD  3/0  SUB       .    1/0  LDW       .    4/0  B         .         .\n";
 
 /// Words, a text, the status, what is written, and what is told.
-const ROWS: [(&[&str], &[u8], u8, &str, &str); 11] = [
+const ROWS: [(&[&str], &[u8], u8, &str, &str); 13] = [
     (
         &["pack", "--turns", "--pipeline", "--trips", "L=6"],
         SUM,
@@ -118,7 +118,15 @@ const ROWS: [(&[&str], &[u8], u8, &str, &str); 11] = [
         1,
         "",
         "line 1: BadOperand\n",
+    ), // two ways to tell the same, of which words name one
+    (
+        &["show", "--pipeline", "--json", "--html"],
+        SUM,
+        2,
+        "",
+        "words: bad\n",
     ),
+    (&["show", "--html", "--summary"], SUM, 2, "", "words: bad\n"),
 ];
 
 #[test]

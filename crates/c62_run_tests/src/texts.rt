@@ -219,9 +219,9 @@ Options:
         &["show", "--help"],
         "Packs serial text and shows each block's schedule, and how short one can be
 
-Usage: c62 show [--why] [--registers] [--summary] [--turns] [--eject <N>] [--shortest] [--search <N>] [--json] [-o <FILE>] [FILE]
-       c62 show --pipeline [--trips <L=N>]... [--apart <REG,REG,..>] [--json] [-o <FILE>] [FILE]
-       c62 show --listing|--packets [--why] [--registers] [--summary] [--json] [-o <FILE>] [FILE]
+Usage: c62 show [--why] [--registers] [--summary] [--turns] [--eject <N>] [--shortest] [--search <N>] [--json|--html] [-o <FILE>] [FILE]
+       c62 show --pipeline [--trips <L=N>]... [--apart <REG,REG,..>] [--json|--html] [-o <FILE>] [FILE]
+       c62 show --listing|--packets [--why] [--registers] [--summary] [--json|--html] [-o <FILE>] [FILE]
 
 Options:
       --turns               Packs on one thread, one side after the other
@@ -237,6 +237,7 @@ Options:
       --registers           Tells how many registers of each side are live at most, and which are free
       --summary             Shows of each block its length alone, and how short one can be
       --json                Writes the same as a JSON document
+      --html                Writes a page for a browser, with why and the registers
   -h, --help                Print help
 ",
         "c62 show --why kernel.s",

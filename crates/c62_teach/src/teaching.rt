@@ -58,7 +58,7 @@ pub fn taught(
         Request::Pack(_) | Request::Show(_) | Request::Run(_, _) | Request::Serial(_, _) => {
             serial_taught(alloc, name, text)
         }
-        Request::PackLoops(_) | Request::ShowLoops(_) | Request::RunLoops(_, _) => {
+        Request::PackLoops(_) | Request::ShowLoops(_, _) | Request::RunLoops(_, _) => {
             serial_taught(alloc, name, text)
         }
         Request::Sim(form, _) => form_taught(alloc, *form, name, text),

@@ -1,8 +1,8 @@
 //! What words ask for, as the README and docs/REPORT.md say.
 
 use c62_command::{
-    Adopting, BadPromise, Command, CommandError, Dump, Flight, FlightStart, Form, Looping, Packing,
-    Print, Promises, Rendering, Request, Setting, Showing, Size, Start, command_of,
+    Adopting, BadPromise, Command, CommandError, Drawing, Dump, Flight, FlightStart, Form, Looping,
+    Packing, Print, Promises, Rendering, Request, Setting, Showing, Size, Start, command_of,
 };
 use c62_op::{Reg, Side};
 use std::alloc::Global;
@@ -10,7 +10,7 @@ use std::process::Abort;
 use std::test::Fail;
 
 /// Words for a listing or a picture, and what they ask for or why they are refused.
-const LISTINGS: [(&[&str], &str); 28] = [
+const LISTINGS: [(&[&str], &str); 36] = [
     (&[], "pack by turns, 0 ejections"),
     (&["pack"], "pack by workers, 0 ejections"),
     (&["pack", "--turns"], "pack by turns, 0 ejections"),
@@ -69,6 +69,25 @@ const LISTINGS: [(&[&str], &str); 28] = [
         "pack by turns, 0 ejections, as JSON",
     ),
     (&["pack", "--json", "--json"], "words"),
+    // A page has why and the registers unasked.
+    (
+        &["show", "--html"],
+        "show by workers, 0 ejections, why, registers, as a page",
+    ),
+    (
+        &["show", "--packets", "--why", "--html"],
+        "show packets, why, registers, as a page",
+    ),
+    // Two ways to tell the same exclude each other.
+    (&["show", "--html", "--json"], "ways"),
+    (&["show", "--json", "--listing", "--html"], "ways"),
+    (&["show", "--summary", "--html"], "ways"),
+    (
+        &["show", "--summary", "--json"],
+        "show by workers, 0 ejections, summary, as JSON",
+    ),
+    (&["show", "--html", "--html"], "words"),
+    (&["pack", "--html"], "words"),
 ];
 
 /// The same for a run, and for what is done with packets.
@@ -264,7 +283,7 @@ const CHECKS: [(&[&str], &str); 18] = [
 ];
 
 /// Words for packets whose loops are pipelined.
-const PIPELINES: [(&[&str], &str); 17] = [
+const PIPELINES: [(&[&str], &str); 19] = [
     (
         &["pack", "--pipeline"],
         "pack loops by workers, 0 ejections",
@@ -329,6 +348,14 @@ const PIPELINES: [(&[&str], &str); 17] = [
         &["pack", "--pipeline", "--json"],
         "pack loops by workers, 0 ejections, as JSON",
     ),
+    (
+        &["show", "--pipeline", "--html"],
+        "show loops by workers, 0 ejections, as a page",
+    ),
+    (
+        &["show", "--html", "--pipeline", "--trips", "L", "--json"],
+        "ways",
+    ),
 ];
 
 fn packing_text(alloc: Global, packing: Packing) -> Result<String, Fail> {
@@ -344,7 +371,8 @@ fn showing_text(alloc: Global, showing: Showing) -> Result<String, Fail> {
     let why = if showing.why { ", why" } else { "" };
     let registers = if showing.registers { ", registers" } else { "" };
     let summary = if showing.summary { ", summary" } else { "" };
-    Ok(format!(in alloc; "{why}{registers}{summary}")?)
+    let page = if showing.page { ", as a page" } else { "" };
+    Ok(format!(in alloc; "{why}{registers}{summary}{page}")?)
 }
 
 fn register_text(alloc: Global, reg: Reg) -> Result<String, Fail> {
@@ -506,15 +534,24 @@ fn request_text(alloc: Global, request: &Request) -> Result<String, Fail> {
         Request::PackLoops(looping) => {
             format!(in alloc; "pack loops {}", looping_text(alloc, looping)?)?
         }
-        Request::ShowLoops(looping) => {
-            format!(in alloc; "show loops {}", looping_text(alloc, looping)?)?
-        }
+        Request::ShowLoops(looping, drawing) => format!(in alloc;
+            "show loops {}{}",
+            looping_text(alloc, looping)?,
+            drawing_text(*drawing)
+        )?,
         Request::RunLoops(looping, flight) => format!(in alloc;
             "run loops {}; {}",
             looping_text(alloc, looping)?,
             loop_flight_text(alloc, flight)?
         )?,
     })
+}
+
+fn drawing_text(drawing: Drawing) -> &'static str {
+    match drawing {
+        Drawing::Columns => "",
+        Drawing::Page => ", as a page",
+    }
 }
 
 fn command_text(alloc: Global, command: &Command) -> Result<String, Fail> {
@@ -535,6 +572,7 @@ fn answer_text(alloc: Global, answer: &Result<Command, CommandError>) -> Result<
             Ok(format!(in alloc; "trips {number}")?)
         }
         Err(CommandError::Promise(BadPromise::Apart)) => Ok(format!(in alloc; "apart")?),
+        Err(CommandError::Ways) => Ok(format!(in alloc; "ways")?),
         Err(CommandError::Memory) => Ok(format!(in alloc; "memory")?),
     }
 }

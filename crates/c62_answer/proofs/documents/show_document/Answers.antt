@@ -5,7 +5,7 @@ use Rattle.c62_answer.proofs.documents.show_document.Goals as goal
 
 pub returns : goal.returns
 returns g c = let shown = c.in_ok-shown.shown.items in (
-  drawing c.args.showing shown,
+  drawing c.args.showing c.args.text.now shown,
   record {
     program = c.in_ok-program.program;
     says = c.in_ok-program.ensures;

@@ -7,7 +7,7 @@ use Rattle.c62_answer.proofs.documents.show_packets_document.Goals as goal
 
 pub returns : goal.returns
 returns c = let shown = c.in_ok-shown.shown.items in (
-  drawing c.args.showing shown,
+  drawing c.args.showing c.args.text.now shown,
   record {
     packets = c.in_ok-packets.packets;
     adopted = c.in_ok-packets.ensures.packets;

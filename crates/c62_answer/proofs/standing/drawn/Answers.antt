@@ -9,5 +9,5 @@ returns c = record {
   shown = c.in_ok-shown.shown.items;
   standing = subst (λ (details : Details). AllZip (IsStanding details) c.args.packets.now c.in_ok-shown.shown.items)
       c.details_of.ensures c.in_ok-shown.ensures;
-  drawn = rw c.deref.ensures.value at c.in_ok-text.ensures;
+  drawn = rw c.deref.ensures.value at c.in_ok-drawn.ensures;
 }
