@@ -12,6 +12,7 @@ var waiting = new Map();
 var bars = new Map();
 var marked = [];
 var held = false;
+var keyed = false;
 
 function add(map, key, value) {
   if (map.has(key)) { map.get(key).push(value); } else { map.set(key, [value]); }
@@ -65,9 +66,10 @@ function mark(line) {
 function show_line(line) {
   var item = document.getElementById('line-' + line);
   if (!item || text.scrollHeight <= text.clientHeight) { return; }
-  var top = item.offsetTop - text.offsetTop;
-  if (top < text.scrollTop || top + item.offsetHeight > text.scrollTop + text.clientHeight) {
-    text.scrollTop = top - text.clientHeight / 2;
+  var frame = text.getBoundingClientRect();
+  var place = item.getBoundingClientRect();
+  if (place.top < frame.top || place.bottom > frame.bottom) {
+    text.scrollTop += place.top - frame.top - text.clientHeight / 2;
   }
 }
 function line_of(target) {
@@ -100,7 +102,11 @@ function step(cell, key) {
 }
 
 document.addEventListener('pointerover', function (event) {
-  if (!held) { tell(event); }
+  if (!held && !keyed) { tell(event); }
+});
+document.addEventListener('pointermove', function (event) {
+  if (keyed && !held) { tell(event); }
+  keyed = false;
 });
 document.addEventListener('focusin', tell);
 document.addEventListener('click', function (event) {
@@ -109,6 +115,7 @@ document.addEventListener('click', function (event) {
   tell(event);
 });
 document.addEventListener('keydown', function (event) {
+  keyed = true;
   var cell = event.target.closest ? event.target.closest('.grid td[data-line]') : null;
   if (event.key === 'Escape') { rest(); return; }
   var next = cell && event.key.indexOf('Arrow') === 0 ? step(cell, event.key) : null;

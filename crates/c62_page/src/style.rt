@@ -86,7 +86,9 @@ td.behind, li.behind { outline: 2px dotted var(--edge); outline-offset: -2px; }
   main { grid-template-columns: minmax(0, 1fr); }
   aside { position: static; max-height: 40vh; border-right: 0; border-bottom: 1px solid var(--rule); }
 }
+@page { size: landscape; margin: 1cm; }
 @media print {
+  body { font-size: 8.5pt; }
   header, aside { position: static; max-height: none; overflow: visible; }
   main { display: block; }
   nav, #told { display: none; }

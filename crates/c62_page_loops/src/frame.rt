@@ -9,7 +9,7 @@ pub const STAGES: &str = "\
 .stage-4 { --kind: var(--branch); }
 .stage-5 { --kind: var(--constant); }
 .stage-6 { --kind: var(--edge); }
-.stage-7 { --kind: var(--link); }
+.stage-7 { --kind: var(--ink); }
 ";
 
 /// The columns of a kernel.
