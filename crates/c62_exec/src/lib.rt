@@ -11,6 +11,7 @@ mod underway;
 
 pub use issuable::is_issuable;
 pub use run::{Flown, fly, fly_counted, row_after, run_row};
+pub use taken::Taken;
 pub use tally::Count;
 pub use turns::Turns;
 pub use underway::{Passed, Underway};

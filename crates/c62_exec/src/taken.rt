@@ -7,8 +7,9 @@ use c62_insn::Target;
 
 /// The branches that ran among the instructions of a packet, with their lines.
 #[derive(Clone, Copy, PartialEq, Eq, Debug)]
-pub(crate) enum Taken {
+pub enum Taken {
     Nothing,
+    /// One alone, where it goes and its line.
     One(Target, u32),
     /// The first two.
     Two(u32, u32),

@@ -45,7 +45,7 @@ impl Underway {
     }
 
     /// Issues the instructions of a packet in a cycle. Answers the branches among them that ran.
-    fn issue(&mut self, insns: &[Placed], cycle: u64, state: &mut State) -> Taken
+    pub fn issue(&mut self, insns: &[Placed], cycle: u64, state: &mut State) -> Taken
         requires soon { cycle < 2 ^ 63 }
         requires fit { Fit cycle insns.now self.old.pipe state.old.machine }
         requires room { length insns.now ≤ state.old.room }
@@ -65,7 +65,7 @@ impl Underway {
 
     /// The branches of a packet are in flight. Answers what breaks the cycle, if something does: two
     /// of them, or writes that land.
-    fn turn(&mut self, taken: Taken, cycle: u64) -> Option<Stop>
+    pub fn turn(&mut self, taken: Taken, cycle: u64) -> Option<Stop>
         ensures broken { result ≡ breach taken (due self.old.pipe.slots cycle) }
         ensures turns { self.new ≡ record self.old { turns = with_turn cycle taken self.old.turns } }
     {
@@ -81,7 +81,7 @@ impl Underway {
 
     /// Ends this cycle of a row and those behind it, of which the row has so many left, up to one that
     /// is broken or in which a branch takes effect.
-    fn pass(&mut self, idle: u32, broken: Option<Stop>, start: u64, state: &mut State) -> Passed
+    pub fn pass(&mut self, idle: u32, broken: Option<Stop>, start: u64, state: &mut State) -> Passed
         requires soon { start < 2 ^ 62 }
         ensures passed { gone result (on_way self.new.pipe self.new.turns state.new.machine)
             ≡ row_goes broken idle start (on_way self.old.pipe self.old.turns state.old.machine) }

@@ -1,5 +1,5 @@
 -- Packets that are alike but for lines have the same chain.
-use Rattle.std.proofs.Common.{◌≡◌, ℕ, ◌<◌, Bool, true, false, List, [], ◌∷◌, length, map, get_or, slice_get, Some, refl}
+use Rattle.std.proofs.Common.{◌≡◌, ℕ, ◌<◌, true, false, List, [], ◌∷◌, length, map, get_or, slice_get, Some, refl}
 use Rattle.std.proofs.Common.{sym, ◌∙◌, ap, subst, ◌⊎◌, inl, inr, arith}
 use mathlib.Core.Path.{fun_ext}
 use Rattle.std.specs.Prelude.{◌↔◌, ◌==◌, ◌&&◌, ◌||◌, Contains, sum_by}
@@ -8,11 +8,10 @@ use Rattle.std.proofs.lemmas.List.{get_or_default, length-map}
 use Rattle.std.proofs.lemmas.Option.{slice_get-get_or, get_or_from_slice_get, slice_get_within}
 use Rattle.std.proofs.Math.ListN.{get_or-map}
 use Rattle.c62_serial.specs.declared.serial.Exit.{Exit}
-use Rattle.c62_serial.specs.declared.chain.Chain.{Chain}
 use Rattle.c62_serial.specs.State.{Machine, IsSound}
 use Rattle.c62_serial.specs.Effect.{Act, is_fault, no_act}
 use Rattle.c62_serial.specs.Serial.{Ran}
-use Rattle.c62_serial.specs.Chain.{Position, At, Leads, IsChain, position_at, position_after}
+use Rattle.c62_serial.specs.Chain.{Position, Leads, position_at, position_after}
 use Rattle.c62_packet.specs.declared.placed.Placed.{Placed}
 use Rattle.c62_packet.specs.Packed.{Packed}
 use Rattle.c62_packet.specs.Alike.{Unlined, unlined, AreAlike}
@@ -21,8 +20,8 @@ use Rattle.c62_meaning.specs.Meaning.{HasFaulted, IsMeaning}
 use Rattle.c62_meaning.specs.Alike.{without_faults, AreSameButFaults}
 use Rattle.c62_meaning.proofs.SerialPackets.{has_one_meaning}
 use Rattle.c62_meaning.proofs.AlikeRuns.{mean_alike}
-use Rattle.c62_pipe.specs.Chain.{no_block, block_of, packet_blocks, cycles_taken, RunsPackets}
-use Rattle.c62_pipe.specs.Alike.{Places, StandsIn, HaveFaulted, HaveTheSameChain, ChainAlike}
+use Rattle.c62_pipe.specs.Chain.{no_block, block_of, packet_blocks, cycles_taken}
+use Rattle.c62_pipe.specs.Alike.{Places, StandsIn, HaveFaulted, ChainAlike}
 
 -- blocks of one number are alike
 block_alike : (packets others : List Packed) (number : ℕ) → AreAlike packets others

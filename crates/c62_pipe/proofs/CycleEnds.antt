@@ -6,7 +6,6 @@ use Rattle.std.proofs.lemmas.Bool.{cases_eq}
 use Rattle.std.proofs.lemmas.List.{length-set}
 use Rattle.c62_serial.specs.State.{Machine, index_of, word_in}
 use Rattle.c62_serial.specs.Effect.{Act, act_of}
-use Rattle.c62_serial.proofs.MemoryLemmas.{stores}
 use Rattle.c62_serial.proofs.RegisterLemmas.{index_within}
 use Rattle.c62_packet.specs.declared.placed.Placed.{Placed}
 use Rattle.c62_packet.specs.Packed.{listing_position}

@@ -1,51 +1,36 @@
 -- A block of packets from one cycle to the next.
-use Rattle.std.proofs.Common.{◌≡◌, ℕ, suc, ◌+◌, ◌-◌, ◌*◌, ◌%◌, ◌<◌, ◌≤◌, List, [], ◌∷◌, ◌++◌, length, length-append}
-use Rattle.std.proofs.Common.{get_or, take, drop, Option, Some, None, refl, sym, ◌∙◌, ap, subst, ◌⊎◌, inl, inr, ⊎_elim}
+use Rattle.std.proofs.Common.{◌≡◌, ℕ, ◌+◌, ◌-◌, ◌*◌, ◌%◌, ◌<◌, ◌≤◌, List, [], ◌∷◌, ◌++◌, length}
+use Rattle.std.proofs.Common.{get_or, take, drop, Option, refl, sym, ◌∙◌, ap, subst, ◌⊎◌, inl, inr}
 use Rattle.std.proofs.Common.{arith}
-use Rattle.std.specs.Prelude.{◌↔◌, Contains, fold, slice_set}
-use Rattle.std.specs.List.{flat_map}
-use Rattle.std.specs.List.Sorted.{IsStrictlyIncreasing}
-use Rattle.std.proofs.lemmas.Bool.{cases_eq, cases_Bool, cond-false, cond_both, and_right, le-ltb}
+use Rattle.std.specs.Prelude.{◌↔◌, Contains}
 use Rattle.std.proofs.Math.ListN.{drop_of_length-le}
-use Rattle.std.proofs.lemmas.List.{length-set, take_more, drop_more, take_all, take-append-drop, append-nil}
+use Rattle.std.proofs.lemmas.List.{take_more, drop_more, take_all}
 use Rattle.std.proofs.lemmas.List.Sums.{fold-append}
 use Rattle.std.proofs.lemmas.List.Elements.{All-contains}
-use Rattle.std.proofs.lemmas.Grind.{flat_map-append}
 use Rattle.c62_op.specs.declared.register.Reg.{Reg}
-use Rattle.c62_insn.specs.declared.effect.Access.{Access as MemoryAccess}
 use Rattle.c62_insn.specs.declared.effect.Target.{Target}
 use Rattle.c62_insn.specs.Insn.{register_writes, greatest_delay}
 use Rattle.c62_rules.specs.Length.{landing_end}
-use Rattle.c62_op.specs.Units.{index_of as unit_index}
-use Rattle.c62_op.proofs.UnitOrder.{index_of-below}
 use Rattle.c62_serial.specs.declared.serial.Exit.{Exit}
 use Rattle.c62_serial.specs.declared.serial.Exit.TheVariants.{Next}
-use Rattle.c62_serial.specs.State.{Machine, Contents, IsSound, index_of, word_in, byte_in}
-use Rattle.c62_serial.specs.Memory.{is_good}
-use Rattle.c62_serial.specs.Faults.{after_fault, with_fault_if}
+use Rattle.c62_serial.specs.State.{Machine, Contents, IsSound}
+use Rattle.c62_serial.specs.Faults.{with_fault_if}
 use Rattle.c62_serial.specs.Effect.{Act, act_of, is_fault}
-use Rattle.c62_serial.specs.Serial.{after_store, after_access, exit_after}
-use Rattle.c62_serial.proofs.FaultLemmas.{joined_rises}
-use Rattle.c62_serial.proofs.MemoryLemmas.{stores}
-use Rattle.c62_serial.proofs.RegisterLemmas.{index_within}
+use Rattle.c62_serial.specs.Serial.{exit_after}
 use Rattle.c62_packet.specs.declared.placed.Placed.{Placed}
 use Rattle.c62_packet.specs.Packed.{Packed, IsPacketBlock, issue_of, listing_position}
-use Rattle.c62_meaning.specs.Landing.{Landing, latest, value_or}
-use Rattle.c62_meaning.specs.Packet.{register_landings, memory_landings, access_landings, access_time, word_before}
+use Rattle.c62_meaning.specs.Packet.{word_before}
 use Rattle.c62_meaning.specs.Packet.{byte_before}
 use Rattle.c62_meaning.specs.Meaning.{HasFaulted, exit_by, IsMeaning}
-use Rattle.c62_meaning.proofs.Lookup.{In, Contains_from_In, In-append_right, In-append_cases, last_value}
-use Rattle.c62_meaning.proofs.Lookup.{last_value-append}
-use Rattle.c62_meaning.proofs.Acting.{act_same}
-use Rattle.c62_meaning.proofs.Landings.{access-last, act_writes}
+use Rattle.c62_meaning.proofs.Lookup.{In, Contains_from_In}
+use Rattle.c62_meaning.proofs.Landings.{act_writes}
 use Rattle.c62_meaning.proofs.Runs.{the_run, the_run_runs}
 use Rattle.c62_meaning.proofs.Faulted.{lines_after, lines_hold}
-use Rattle.c62_pipe.specs.Flight.{Slot, Store, Flight, IsIdle, due, with_writes, FitsSlots, stores_at, stores_of}
-use Rattle.c62_pipe.specs.Flight.{act_at, issued, landed, stored, at_end, after_end}
-use Rattle.c62_pipe.proofs.Order.{Ascends, ascends, parts_at, In-take}
-use Rattle.c62_pipe.proofs.Slots.{due_of, due_in, due-set_same, due-set_other, length-writes, due_writes, act_soon}
-use Rattle.c62_pipe.proofs.Slots.{due_none, few_due, fits}
-use Rattle.c62_pipe.proofs.Landed.{last_pair, landed-last, word-next, byte-next}
+use Rattle.c62_pipe.specs.Flight.{Flight, IsIdle, due}
+use Rattle.c62_pipe.specs.Flight.{act_at, issued, at_end, after_end}
+use Rattle.c62_pipe.proofs.Order.{Ascends, ascends, parts_at}
+use Rattle.c62_pipe.proofs.Slots.{due_of, due_in}
+use Rattle.c62_pipe.proofs.Slots.{due_none}
 use Rattle.c62_pipe.proofs.Flying.{Flying, position_of, start, In-drop, does, IsReady, is_ready, issue_step}
 use Rattle.c62_pipe.proofs.CycleEnds.{end_step}
 

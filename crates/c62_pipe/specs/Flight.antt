@@ -47,7 +47,7 @@ with_due cycle write slots = slice_set slots (cycle % 5) (due slots cycle ++ wri
 
 -- a write that an instruction of this line made
 abbrev pub made_by : ℕ → (Reg × ℕ) × ℕ → Due
-made_by line write = record { reg = write.0.0; word = write.1; line = line }
+made_by line write = record { reg = write.0.0; word = write.1; line = line; delay = write.0.1 }
 
 -- a write of an instruction of this line that is issued in this cycle
 abbrev pub with_write : ℕ → ℕ → List Slot → (Reg × ℕ) × ℕ → List Slot

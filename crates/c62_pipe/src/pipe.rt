@@ -116,15 +116,22 @@ impl Pipe {
                 reg: base,
                 word,
                 line,
+                delay: 0,
             };
-            self.ring.schedule(cycle, 0, write);
+            self.ring.schedule(cycle, write);
         }
         if let Some(reg) = transfer.loads
             && let Some(word) = loaded
         {
             let line = placed.line;
-            let write = Due { reg, word, line };
-            self.ring.schedule(cycle, placed.insn.delay(), write);
+            let delay = placed.insn.delay();
+            let write = Due {
+                reg,
+                word,
+                line,
+                delay,
+            };
+            self.ring.schedule(cycle, write);
         }
     }
 
@@ -146,8 +153,14 @@ impl Pipe {
         match placed.insn.action(state.registers())? {
             Action::Write(reg, word) => {
                 let line = placed.line;
-                let write = Due { reg, word, line };
-                self.ring.schedule(cycle, placed.insn.delay(), write);
+                let delay = placed.insn.delay();
+                let write = Due {
+                    reg,
+                    word,
+                    line,
+                    delay,
+                };
+                self.ring.schedule(cycle, write);
                 None
             }
             Action::Transfer(transfer) => {

@@ -51,13 +51,13 @@ impl Ring {
         }
     }
 
-    /// Adds a write of an instruction that is issued in this cycle: it lands after so many cycles more.
-    pub fn schedule(&mut self, cycle: u64, delay: u8, write: Due)
+    /// Adds a write of an instruction that is issued in this cycle.
+    pub fn schedule(&mut self, cycle: u64, write: Due)
         requires soon { cycle < 2 ^ 63 }
-        requires room { length (due self.old (cycle + delay)) < 40 }
-        ensures { self.new ≡ with_due (cycle + delay) write self.old }
+        requires room { length (due self.old (cycle + write.delay)) < 40 }
+        ensures { self.new ≡ with_due (cycle + write.delay) write self.old }
     {
-        self.slots[slot_of(cycle + u64::from(delay))].push(write);
+        self.slots[slot_of(cycle + u64::from(write.delay))].push(write);
     }
 
     /// What is due in this cycle, in the order of issue.

@@ -15,14 +15,17 @@ const NONE: Due = Due {
     },
     word: 0,
     line: 0,
+    delay: 0,
 };
 
-/// A write that is due: the word that a register gets, and the line of the instruction that made it.
+/// A write that is due: the word that a register gets, the line of the instruction that made it, and how many cycles behind its
+/// issue the write lands.
 #[derive(Clone, Copy, PartialEq, Eq, Debug)]
 pub struct Due {
     pub reg: Reg,
     pub word: u32,
     pub line: u32,
+    pub delay: u8,
 }
 
 /// The writes that land in one cycle, in the order of issue.

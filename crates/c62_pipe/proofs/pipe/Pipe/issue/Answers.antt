@@ -23,7 +23,7 @@ schedule-requires-clause-room c =
     (with_writes c.args.cycle c.args.placed.now.line act.writes c.args.self.now.slots)) did c.requires.fits in
     let same : c.args.self.now.slots ≡ c.self.inside.ring = sym (ap (λ (flight : Flight). flight.slots) c.self.view_is)
     in
-    rw c.delay.ensures (room_for c.args.cycle c.args.placed.now.line
+    rw c.delay-delay.ensures (room_for c.args.cycle c.args.placed.now.line
     ((c.in-Write.reg, delay_of (op_of c.args.placed.now.insn)), c.in-Write.word) [] c.self.inside.ring
     (rw same at fits))
 

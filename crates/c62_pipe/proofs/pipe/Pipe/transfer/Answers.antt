@@ -55,7 +55,7 @@ schedule-requires-clause-room c =
     (placed_from c.args.state.now.machine.base (Some c.args.transfer.access)))
     c.args.self.now.slots c.in-Some.is c.requires.fits)
 
-ring : (c : goal.After-delay)
+ring : (c : goal.After-schedule-arg-2-1)
     → c.match-transfer.self-inside.ring ≡ with_base c.args.cycle c.args.placed.now.line c.args.transfer.base
     c.args.self.now.slots
 ring c =
@@ -82,4 +82,4 @@ schedule-requires-2-clause-room c =
     (placed_from c.args.state.now.machine.base (Some c.args.transfer.access)))
     c.in-Some-loads.reg c.in-Some-loaded.word c.args.self.now.slots c.in-Some-loads.is
     (sym c.access-loaded.ensures.loaded ∙ c.in-Some-loaded.is) c.requires.fits in
-    rw (ring c, c.delay.ensures) fit
+    rw (ring c, c.delay-delay.ensures) fit
