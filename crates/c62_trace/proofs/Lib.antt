@@ -1,0 +1,4 @@
+pub mod Telling
+pub mod Shown
+pub mod Events
+pub mod Told

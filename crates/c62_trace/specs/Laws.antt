@@ -1,0 +1,40 @@
+-- What the events of a cycle are, as laws above their definition: by an instruction that was issued, and its write or its store.
+use Rattle.std.specs.Prelude.{◌≡◌, ◌↔◌, ℕ, ◌+◌, ◌-◌, List, Contains, Some, IsTrue}
+use Rattle.c62_op.specs.declared.register.Reg.{Reg}
+use Rattle.c62_serial.specs.State.{Machine}
+use Rattle.c62_serial.specs.Memory.{is_good}
+use Rattle.c62_serial.specs.Effect.{runs}
+use Rattle.c62_packet.specs.declared.placed.Placed.{Placed}
+use Rattle.c62_meaning.specs.Packet.{Did, word_before}
+use Rattle.c62_pipe.specs.declared.slot.Due.{Due}
+use Rattle.c62_pipe.specs.Flight.{made_by}
+use Rattle.c62_trace.specs.Event.{Landed, Stored, issue_of, events_in}
+
+-- an instruction of these was issued, and a write of it lands in this cycle, when its delay is over
+pub record LandsIn (placed : List Placed) (did : Did) (cycle : ℕ) (write : Due) : Type 0 where
+  pub by : Placed
+  pub inside : Contains placed by
+  pub made : (Reg × ℕ) × ℕ
+  pub writes : Contains (did by).writes made
+  pub when : by.cycle + made.0.1 ≡ cycle
+  pub is : made_by by.line made ≡ write
+  pub issued : by.cycle ≡ cycle - write.delay
+
+-- one of these was issued in this cycle, and made this store, which doesn't fault
+pub record StoresIn (placed : List Placed) (did : Did) (cycle line place size value : ℕ) : Type 0 where
+  pub by : Placed
+  pub inside : Contains placed by
+  pub issued : by.cycle ≡ cycle
+  pub of_line : by.line ≡ line
+  pub stores : (did by).access ≡ Some (record { address = place; size = size; value = Some value })
+  pub good : IsTrue (is_good place size)
+
+-- Each write that lands in a cycle is among its events, and so is each store, and no other. So is each issue, with what the
+-- registers held before the cycle.
+pub record AreTold (placed : List Placed) (opening : Machine) (did : Did) (cycle : ℕ) : Type 0 where
+  pub landings : (write : Due) → Contains (events_in placed opening did cycle) (Landed write) ↔ LandsIn placed did cycle write
+  pub stores : (line place size value : ℕ)
+      → Contains (events_in placed opening did cycle) (Stored line place size value) ↔ StoresIn placed did cycle line place size value
+  pub issues : (p : Placed) → Contains placed p → p.cycle ≡ cycle
+      → Contains (events_in placed opening did cycle)
+      (issue_of (word_before placed opening did cycle) p (runs (word_before placed opening did cycle) p.insn) (did p).access)

@@ -1,0 +1,5 @@
+pub mod Event
+pub mod Line
+pub mod Stream
+pub mod Laws
+pub mod Written

@@ -1,0 +1,5 @@
+pub mod Names
+pub mod Trace
+pub mod Row
+pub mod Flight
+pub mod Chain
