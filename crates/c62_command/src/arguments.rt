@@ -23,6 +23,16 @@ macro_rules! ending {
     };
 }
 
+/// The same of a command whose run can be shown as it goes. These options are read before clap reads the others.
+macro_rules! ending_traced {
+    ($example:literal) => {
+        ending!(
+            "To show the run as it goes:\n      --trace[=<FILE>]     Writes a line an event, to standard error or to a file\n      --vcd <FILE>         Writes a waveform, which GTKWave opens\n      --from-cycle <N>     The first cycle that is shown; 0 where none is given\n      --cycles-traced <N>  How many cycles are shown; 10000 where none is given\n\n",
+            $example
+        )
+    };
+}
+
 fn turns_flag<'a>(alloc: Global) -> Arg<'a>
     ensures rule { rule_of result ≡ turns_rule }
     ensures local { result.global ≡ false }
@@ -407,9 +417,9 @@ fn sim_command<'a>(alloc: Global) -> Result<Command<'a>, AllocError>
     let command = Command::new(alloc, "sim")
         .about("Reads a listing, runs its packets and reports the end")
         .override_usage(
-            "c62 sim [--packets] [--blocks <N>] [--profile] [--strict] [--json] [-o <FILE>] [FILE] [SETTING]...",
+            "c62 sim [--packets] [--blocks <N>] [--profile] [--strict] [--trace[=<FILE>]] [--vcd <FILE>] [--json] [-o <FILE>] [FILE] [SETTING]...",
         )
-        .after_help(ending!("c62 sim kernel.lst A4=8 @8=99"));
+        .after_help(ending_traced!("c62 sim kernel.lst A4=8 @8=99"));
     with_start(alloc, command.arg(written_flag(alloc))?)
 }
 
@@ -422,9 +432,9 @@ fn exec_command<'a>(alloc: Global) -> Result<Command<'a>, AllocError>
             "Runs packets as they are written, with branches and loads in flight, and reports the end",
         )
         .override_usage(
-            "c62 exec [--cycles <N>] [--from <NAME> [--alone]] [--profile] [--strict] [--json] [-o <FILE>] [FILE] [SETTING]...",
+            "c62 exec [--cycles <N>] [--from <NAME> [--alone]] [--profile] [--strict] [--trace[=<FILE>]] [--vcd <FILE>] [--json] [-o <FILE>] [FILE] [SETTING]...",
         )
-        .after_help(ending!("c62 exec hand.asm --from loop A4=8"));
+        .after_help(ending_traced!("c62 exec hand.asm --from loop A4=8"));
     with_flight(alloc, command)
 }
 

@@ -5,7 +5,7 @@ use Rattle.std.specs.Borrow.{Bor}
 use Rattle.std.specs.List.{after_first, before_first, position_or_len}
 use Rattle.std.proofs.lemmas.Bool.{lt-ltb}
 use Rattle.std.proofs.lemmas.Bool.Decides.{nat_tests}
-use Rattle.c62_files.specs.Words.{Text, dump_parts}
+use Rattle.c62_files.specs.Words.{Text, equals_parts}
 
 abbrev IsFirst : Text → Bor Text × Bor Text → Type 0
 IsFirst word parts =
@@ -14,7 +14,7 @@ IsFirst word parts =
 
 pub parted : (word : Text) (parts : Option (Bor Text × Bor Text))
     → MatchOption parts (position_or_len (λ b. b == 61) word ≡ length word) (IsFirst word)
-    → option_map (λ p. (p.0.now, p.1.now)) parts ≡ dump_parts word
+    → option_map (λ p. (p.0.now, p.1.now)) parts ≡ equals_parts word
 parted word None none =
     let not_within : nat_lt (position_or_len (λ b. b == 61) word) (length word) ≡ false = grind (arith, nat_tests, none)
     in

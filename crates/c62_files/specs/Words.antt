@@ -1,5 +1,5 @@
 -- Which words of the command line name files (docs/COMMANDS.md, "Files").
-use Rattle.std.specs.Prelude.{ℕ, ◌+◌, Bool, false, not, ◌==◌, ◌||◌, List, [], ◌∷◌, ◌++◌, map, take, drop, length, codes, Option, Some, None, option_map, if◌then◌else◌}
+use Rattle.std.specs.Prelude.{ℕ, ◌+◌, Bool, true, false, not, ◌==◌, ◌||◌, List, [], ◌∷◌, ◌++◌, map, take, drop, length, codes, Option, Some, None, option_map, if◌then◌else◌}
 use Rattle.std.specs.List.{list_any, flat_map, position}
 use Rattle.std.specs.Option.{option_map_or, option_to_list}
 use Rattle.std.specs.Str.{bytes_eq}
@@ -16,12 +16,17 @@ Text = List ℕ
 abbrev pub texts : List (Bor Text) → List Text
 texts words = map (λ word. word.now) words
 
+-- an option of a trace whose value is the word behind it
+abbrev pub is_of_trace : Text → Bool
+is_of_trace word = bytes_eq word (codes "--vcd") || bytes_eq word (codes "--from-cycle") || bytes_eq word (codes "--cycles-traced")
+
 -- an option of a command whose value is the word behind it
 abbrev pub takes_value : Text → Bool
 takes_value word =
     bytes_eq word (codes "--eject") || bytes_eq word (codes "--search") || bytes_eq word (codes "--blocks") || bytes_eq word (codes "--cycles")
     || bytes_eq word (codes "--from") || bytes_eq word (codes "--most") || bytes_eq word (codes "--as")
     || bytes_eq word (codes "--trips") || bytes_eq word (codes "--apart")
+    || is_of_trace word
 
 -- what a word wants of the one behind it
 abbrev pub wanted_by : Text → Wanted
@@ -34,6 +39,16 @@ wanted_by word =
     else (if bytes_eq word (codes "--base") then Base
     else (if takes_value word then Value
     else Nothing))))))
+
+abbrev pub is_value : Wanted → Bool
+is_value Command = false
+is_value Nothing = false
+is_value Help = false
+is_value _ = true
+
+-- the word behind this one is the value of an option
+unfoldable pub has_value : Text → Bool
+has_value word = is_value (wanted_by word)
 
 -- what the command wants: behind `help` no word names a file
 abbrev pub wanted_by_command : Text → Wanted
@@ -155,16 +170,16 @@ outputs words = flat_map output_in (all_pieces words)
 -- ---- memory that goes to files
 
 -- what stands before the first `=` of a word, and what stands behind it
-abbrev pub dump_parts : Text → Option (Text × Text)
-dump_parts word = option_map (λ k. (take k word, drop (k + 1) word)) (position (λ b. b == 61) word)
+abbrev pub equals_parts : Text → Option (Text × Text)
+equals_parts word = option_map (λ k. (take k word, drop (k + 1) word)) (position (λ b. b == 61) word)
 
 -- `ADDRESS+LENGTH` of `ADDRESS+LENGTH=NAME`, and nothing where there is no name
 abbrev pub extent_of : Text → Text
-extent_of word = option_map_or (λ parts. parts.0) (dump_parts word) []
+extent_of word = option_map_or (λ parts. parts.0) (equals_parts word) []
 
 -- the name of the file
 abbrev pub name_of : Text → Option Text
-name_of word = option_map (λ parts. parts.1) (dump_parts word)
+name_of word = option_map (λ parts. parts.1) (equals_parts word)
 
 -- the name of a file that memory goes to
 abbrev pub dump_in : Word → List Text

@@ -11,6 +11,11 @@ Holding = Text → Option (List ℕ)
 abbrev pub IsReplaced : (before : Holding) → (name : Text) → (bytes : List ℕ) → (after : Holding) → Type 0
 IsReplaced before name bytes after = IfSome (after name) (λ all. all ≡ bytes) × ((other : Text) → other ≢ name → after other ≡ before other)
 
+-- The file of this name holds then what a sheet holds, where both are known, and all others what they held.
+abbrev pub IsFinished : (before : Holding) → (name : Text) → (sheet : Option (List ℕ)) → (after : Holding) → Type 0
+IsFinished before name sheet after =
+    IfSome (after name) (λ all. IfSome sheet (λ bytes. all ≡ bytes)) × ((other : Text) → other ≢ name → after other ≡ before other)
+
 -- the name of a file, and what it is to hold
 abbrev pub text_output : Output → Text × List ℕ
 text_output file = (file.name.now, file.bytes.now)

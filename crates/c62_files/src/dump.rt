@@ -1,11 +1,11 @@
 //! Memory that is written to files: what is, and where to (docs/COMMANDS.md, "Files").
 
 ghost use Rattle.std.specs.Prelude.{◌≡◌, option_map};
-ghost use Rattle.c62_files.specs.Words.{dump_parts, extent_of, name_of};
+ghost use Rattle.c62_files.specs.Words.{equals_parts, extent_of, name_of};
 
 /// What stands before the first `=` of a word, and what stands behind it.
-fn dump_parts<'a>(word: &'a str) -> Option<(&'a str, &'a str)>
-    ensures { option_map (λ parts. (parts.0.now, parts.1.now)) result ≡ dump_parts word.entry.now }
+pub fn equals_parts<'a>(word: &'a str) -> Option<(&'a str, &'a str)>
+    ensures { option_map (λ parts. (parts.0.now, parts.1.now)) result ≡ equals_parts word.entry.now }
 {
     word.split_once('=')
 }
@@ -14,7 +14,7 @@ fn dump_parts<'a>(word: &'a str) -> Option<(&'a str, &'a str)>
 pub(crate) fn extent_of(word: &str) -> &str
     ensures { result.now ≡ extent_of word.now }
 {
-    match dump_parts(word) {
+    match equals_parts(word) {
         Some((extent, _)) => extent,
         None => "",
     }
@@ -24,7 +24,7 @@ pub(crate) fn extent_of(word: &str) -> &str
 pub(crate) fn name_of<'a>(word: &'a str) -> Option<&'a str>
     ensures { option_map (λ name. name.now) result ≡ name_of word.entry.now }
 {
-    match dump_parts(word) {
+    match equals_parts(word) {
         Some((_, name)) => Some(name),
         None => None,
     }

@@ -1,12 +1,11 @@
 //! Files by their names.
 
-ghost use Rattle.std.specs.Prelude.{◌≡◌, ◌+◌, ℕ, List, Option, None, IfOk, IfSome, OnOk, OnErr, take};
-ghost use Rattle.c62_files.specs.Writing.{IsReplaced};
+ghost use Rattle.std.specs.Prelude.{◌≡◌, ◌+◌, ℕ, Bool, List, [], Option, Some, IfOk, IfSome, OnOk, OnErr, take, true};
+ghost use Rattle.c62_files.specs.Writing.{IsFinished, IsReplaced};
 
 use std::alloc::{AllocError, Global};
-use std::fs::{Files, OpenFile, OpenOptions};
-use std::io::{Read, Write};
-use std::{fs, io};
+use std::io;
+use std::io::Write;
 
 /// Why a file was not read or written.
 #[derive(Debug, Drop)]
@@ -34,8 +33,14 @@ impl From<io::Error> for FileError {
 
 /// Where files are read and written by their names.
 pub trait Folder {
+    /// A file that is being written beside the one whose place it takes.
+    type Sheet: Write + Drop;
+
     /// What the file of a name holds, where that is known.
     ghost holds: { Self → List ℕ → Option (List ℕ) };
+
+    /// Whether it is known what sheets hold. It is where anything is known of a file that one took the place of.
+    ghost is_known: { Bool };
 
     /// What the file of this name holds, but no more than one byte past this limit.
     ///
@@ -53,88 +58,55 @@ pub trait Folder {
     fn replace(&mut self, alloc: Global, name: &str, bytes: &[u8]) -> Result<(), FileError>
         ensures ok { OnOk result (IsReplaced (holds self.old) name.now bytes.now (holds self.new)) }
         ensures err { OnErr result (holds self.new ≡ holds self.old) };
+
+    /// Begins a sheet for the file of this name, which stays what it is until the sheet is finished. Nothing is written on it yet. It is
+    /// written piece by piece, and ended by `finish` or `discard`.
+    ///
+    /// # Errors
+    ///
+    /// Where it can't be made, one for this name isn't ended yet, or memory ran out.
+    fn begin(&mut self, alloc: Global, name: &str) -> Result<Self::Sheet, FileError>
+        ensures blank { IfOk result (λ sheet. is_known ≡ true → Self.Sheet.contents sheet ≡ Some []) }
+        ensures kept { holds self.new ≡ holds self.old };
+
+    /// Puts a sheet in the place of the file for which it was begun, which has this name: that holds what the sheet holds then. What is
+    /// known of files by other names is as it was.
+    ///
+    /// # Errors
+    ///
+    /// Where it can't be put there, or memory ran out. All files are what they were then, and the sheet is discarded.
+    fn finish(&mut self, alloc: Global, name: &str, sheet: Self::Sheet) -> Result<(), FileError>
+        ensures ok { OnOk result (IsFinished (holds self.old) name.now (Self.Sheet.contents sheet) (holds self.new)) }
+        ensures known { OnOk result (IfSome (holds self.new name.now) (λ _. is_known ≡ true)) }
+        ensures err { OnErr result (holds self.new ≡ holds self.old) };
+
+    /// Lets a sheet go, and answers why not all was written on it, where the system says that. All files are what they were.
+    fn discard(&mut self, sheet: Self::Sheet) -> Option<io::Error>
+        ensures { holds self.new ≡ holds self.old };
 }
 
-/// The files of the system. Of what they hold nothing is known.
-#[derive(Drop)]
-pub struct Disk<'a, H> {
-    files: &'a H,
-}
-
-impl<'a, H: Files> Disk<'a, H> {
-    pub fn new(files: &'a H) -> Disk<'a, H> {
-        Disk { files }
-    }
-}
-
-/// The file that a name leads to, over links, or the name where there is none.
-fn real_name<H: Files>(files: &H, alloc: Global, name: &str) -> Result<String, FileError> {
-    match files.canonicalize(alloc, name) {
-        Ok(path) => Ok(String::from_str(alloc, path.as_str())?),
-        Err(_) => Ok(String::from_str(alloc, name)?),
-    }
-}
-
-/// Whether the name is that of a device or a pipe, which is written to as it stands.
-fn is_device<H: Files>(files: &H, name: &str) -> bool {
-    match fs::metadata(files, name) {
-        Ok(found) => !found.is_file() && !found.is_dir(),
-        Err(_) => false,
-    }
-}
-
-/// Writes a new file beside the other, with the rights of that where it is there, and puts it in its place.
-fn write_beside<H: Files>(files: &H, beside: &str, name: &str, bytes: &[u8]) -> io::Result<()> {
-    let mut options = OpenOptions::new();
-    options.write(true).create_new(true);
-    let mut file = options.open(files, beside)?;
-    if let Ok(found) = fs::metadata(files, name) {
-        file.set_permissions(found.permissions())?;
-    }
-    file.write_all(bytes)?;
-    file.sync_all()?;
-    fs::rename(files, beside, name)
-}
-
-fn write_device<H: Files>(files: &H, name: &str, bytes: &[u8]) -> io::Result<()> {
-    let mut file = OpenOptions::new().write(true).open(files, name)?;
-    file.write_all(bytes)
-}
-
-fn replace_file<H: Files>(
-    files: &H,
+/// Ends the sheet that was begun for the file of this name: puts it in its place where all was written on it, and discards it otherwise.
+///
+/// # Errors
+///
+/// Where not all was written, or it can't be put there. All files are what they were then.
+pub fn end_sheet<F: Folder>(
     alloc: Global,
+    folder: &mut F,
     name: &str,
-    bytes: &[u8],
-) -> Result<(), FileError> {
-    let real = real_name(files, alloc, name)?;
-    if is_device(files, &real) {
-        return Ok(write_device(files, &real, bytes)?);
+    sheet: F::Sheet,
+    is_whole: bool,
+) -> Result<(), FileError>
+    ensures whole { OnOk result (is_whole ≡ true) }
+    ensures ok { OnOk result (IsFinished (F.holds folder.old) name.now (F.Sheet.contents sheet) (F.holds folder.new)) }
+    ensures known { OnOk result (IfSome (F.holds folder.new name.now) (λ _. F.is_known ≡ true)) }
+    ensures err { OnErr result (F.holds folder.new ≡ F.holds folder.old) }
+{
+    if is_whole {
+        return folder.finish(alloc, name, sheet);
     }
-    let beside = format!(in alloc; "{real}.c62-new")?;
-    match write_beside(files, &beside, &real, bytes) {
-        Ok(()) => Ok(()),
-        Err(error) => {
-            if error.kind() != io::ErrorKind::AlreadyExists {
-                let _ = fs::remove_file(files, beside.as_str());
-            }
-            Err(FileError::from(error))
-        }
-    }
-}
-
-impl<H: Files> Folder for Disk<'_, H> {
-    ghost holds = { λ _ _. None };
-
-    fn read(&self, alloc: Global, name: &str, limit: usize) -> Result<Vec<u8>, FileError> {
-        let file = fs::open(self.files, name)?;
-        let mut bytes = Vec::new(alloc);
-        file.take((limit as u64).saturating_add(1))
-            .read_to_end(&mut bytes)?;
-        Ok(bytes)
-    }
-
-    fn replace(&mut self, alloc: Global, name: &str, bytes: &[u8]) -> Result<(), FileError> {
-        replace_file(self.files, alloc, name, bytes)
+    match folder.discard(sheet) {
+        Some(error) => Err(FileError::from(error)),
+        None => Err(FileError::Failed(io::Error::from(io::ErrorKind::WriteZero))),
     }
 }

@@ -3,18 +3,24 @@
 #![tactic(auto)]
 
 mod call;
+mod disk;
 mod dump;
 mod expand;
 mod folder;
 mod load;
+mod memory;
 mod piece;
 mod settings;
 mod wanted;
 mod writing;
 
 pub use call::{Call, CallError, Source, call_of};
+pub use disk::{Disk, DiskSheet};
+pub use dump::equals_parts;
 pub use expand::{MOST_SETTINGS, Unexpanded, Unread, expanded};
-pub use folder::{Disk, FileError, Folder};
+pub use folder::{FileError, Folder, end_sheet};
 pub use load::Misfit;
+pub use memory::MemoryFile;
 pub use piece::Piece;
+pub use wanted::has_value;
 pub use writing::{Output, Unwritten, write_files};

@@ -1,7 +1,7 @@
 //! What an option wants of the word behind it.
 
 ghost use Rattle.std.specs.Prelude.{◌≡◌, option_map};
-ghost use Rattle.c62_files.specs.Words.{wanted_by, wanted_by_command, option_of};
+ghost use Rattle.c62_files.specs.Words.{has_value, is_of_trace, takes_value, wanted_by, wanted_by_command, option_of};
 
 /// What a word is, by the one before it.
 #[derive(Clone, Copy, PartialEq, Eq, Debug)]
@@ -26,6 +26,29 @@ pub enum Wanted {
     Base,
     /// A word for the command, and so are all behind it: behind `help`.
     Help,
+}
+
+/// Whether the word is an option of a trace whose value is the word behind it.
+fn is_of_trace(word: &str) -> bool
+    ensures { result ≡ is_of_trace word.now }
+{
+    word == "--vcd" || word == "--from-cycle" || word == "--cycles-traced"
+}
+
+/// Whether the word is an option of a command whose value is the word behind it.
+fn takes_value(word: &str) -> bool
+    ensures { result ≡ takes_value word.now }
+{
+    word == "--eject"
+        || word == "--search"
+        || word == "--blocks"
+        || word == "--cycles"
+        || word == "--from"
+        || word == "--most"
+        || word == "--as"
+        || word == "--trips"
+        || word == "--apart"
+        || is_of_trace(word)
 }
 
 impl Wanted {
@@ -56,16 +79,7 @@ impl Wanted {
             Wanted::Dump
         } else if word == "--base" {
             Wanted::Base
-        } else if word == "--eject"
-            || word == "--search"
-            || word == "--blocks"
-            || word == "--cycles"
-            || word == "--from"
-            || word == "--most"
-            || word == "--as"
-            || word == "--trips"
-            || word == "--apart"
-        {
+        } else if takes_value(word) {
             Wanted::Value
         } else {
             Wanted::Nothing
@@ -85,5 +99,22 @@ impl Wanted {
             Wanted::Base => Some("--base"),
             Wanted::Command | Wanted::Nothing | Wanted::Value | Wanted::Help => None,
         }
+    }
+}
+
+/// Whether the word behind this one is the value of an option.
+#[tactic(auto, unfolding(crate::specs::Words::has_value))]
+pub fn has_value(word: &str) -> bool
+    ensures { result ≡ has_value word.now }
+{
+    match Wanted::by(word) {
+        Wanted::Command | Wanted::Nothing | Wanted::Help => false,
+        Wanted::Value
+        | Wanted::Output
+        | Wanted::Settings
+        | Wanted::Load
+        | Wanted::Print
+        | Wanted::Dump
+        | Wanted::Base => true,
     }
 }

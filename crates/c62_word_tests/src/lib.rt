@@ -6,3 +6,5 @@
 mod command;
 #[cfg(test)]
 mod explain;
+#[cfg(test)]
+mod tracing;

@@ -1,7 +1,7 @@
 use Rattle.std.proofs.Common.{arith}
 use Rattle.std.proofs.lemmas.Str.Pattern.{split_once_first}
 use Rattle.c62_files.proofs.Parting.{parted}
-use Rattle.c62_files.proofs.dump.dump_parts.Goals as goal
+use Rattle.c62_files.proofs.dump.equals_parts.Goals as goal
 
 pub returns : goal.returns
 returns c =
