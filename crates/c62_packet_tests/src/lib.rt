@@ -20,3 +20,5 @@ mod packet;
 mod profile;
 #[cfg(test)]
 mod rows;
+#[cfg(test)]
+mod traced;

@@ -7,7 +7,7 @@ use Rattle.clap.specs.Words.{Text}
 use Rattle.c62_answer.specs.Message.{Tells, told_of}
 use Rattle.c62_answer.specs.Run.{Streams, streams}
 use Rattle.c62_answer.proofs.WholeRuns.{told_tells}
-use Rattle.c62_files.specs.Call.{From, IsCall, IsMistake, Standard, File, Parts, text_source}
+use Rattle.c62_files.specs.Call.{From, IsCall, IsMistake, Standard, File, Named, Parts, text_source}
 use Rattle.c62_files.specs.Expand.{Holding}
 use Rattle.c62_files.specs.declared.expand.Unexpanded.{Unexpanded}
 use Rattle.c62_files.specs.declared.expand.Unexpanded.TheVariants.{Load, Unread as NotRead}
@@ -24,13 +24,14 @@ use Rattle.c62_program.specs.declared.trouble.Trouble.TheVariants.{Memory}
 use Rattle.c62_program.specs.Trouble.{Called, Expanding, HasCallTrouble, IsSaid, IsTroubleWithRun}
 use Rattle.c62_program.specs.Trouble.{IsTroubleWithSource, Loose, Mistaken, Running, Says, call_message, is_early}
 use Rattle.c62_program.specs.Trouble.{load_message, loose_message, of_reading, of_words, status_of}
-use Rattle.c62_program.specs.Program.{HasBegun, IsFailure}
+use Rattle.c62_program.specs.Program.{EndsCall, Failed, HasBegun, IsFailure}
 
 -- ---- memory
 
 pub memory_with : (source : From) (trouble : Trouble) → trouble ≡ Memory → IsTroubleWithSource source trouble
 memory_with Standard trouble is = rw is tt
 memory_with (File name) trouble is = rw is tt
+memory_with (Named name) trouble is = rw is tt
 memory_with (Parts text listing) trouble is = inl (rw is tt)
 
 -- ---- what is said
@@ -68,6 +69,7 @@ not_words (NotRead unread) error same = not_read unread.name unread.error error 
 not_source : (source : From) (error : CallError) → IsTroubleWithSource source (NoCall error) → ⊥
 not_source Standard error with = with
 not_source (File name) error with = with
+not_source (Named name) error with = with
 not_source (Parts text listing) error (inl with) = with
 not_source (Parts text listing) error (inr with) = with
 
@@ -127,3 +129,12 @@ called before after words call trouble old new told status is has ends silent sa
   unwritten = unwritten;
   kept = subst (HasBegun before after) is.dumped kept;
 }
+
+pub ends_failed : (before after : Holding) (call : Call) (trouble : Trouble) (old new : Streams)
+    (told : Option (List ℕ)) (status : ℕ)
+    → HasCallTrouble before call trouble → status ≡ status_of trouble
+    → (is_early trouble ≡ true → Keeps old.errors told) → Says Tells trouble told new.errors
+    → Keeps old.output new.output → HasBegun before after (texts call.dumps.items)
+    → EndsCall before after call old new status
+ends_failed before after call trouble old new told status has ends silent says unwritten kept =
+    Failed trouble has ends (is_said before call trouble old.errors told new.errors has silent says) unwritten kept

@@ -3,3 +3,4 @@ pub mod Failing
 pub mod Writing
 pub mod Calling
 pub mod Dumps
+pub mod Traced

@@ -4,3 +4,5 @@ pub mod Trouble
 pub mod Joined
 pub mod Teaching
 pub mod Program
+pub mod Tracing
+pub mod Whole

@@ -3,9 +3,9 @@ use Rattle.std.specs.Prelude.{ℕ, List, [], ◌∷◌, ◌++◌, codes, Option,
 use Rattle.std.specs.Str.{bytes_eq}
 use Rattle.clap.specs.Words.{Text}
 use Rattle.c62_program.specs.declared.page.Page.{Page as Told}
-use Rattle.c62_program.specs.declared.page.Page.TheVariants.{Version, Status, Lint, Explain}
+use Rattle.c62_program.specs.declared.page.Page.TheVariants.{Version, Status, Lint, Explain, Trace}
 use Rattle.c62_json.specs.declared.version.TheConstants.{VERSION}
-use Rattle.c62_program.specs.declared.page.TheConstants.{TOOLCHAIN, STATUS, LINT, EXPLAIN}
+use Rattle.c62_program.specs.declared.page.TheConstants.{TOOLCHAIN, STATUS, LINT, EXPLAIN, TRACE}
 
 -- the page behind `help`
 abbrev pub help_page : Text → Option Told
@@ -13,7 +13,8 @@ help_page page =
     if bytes_eq page (codes "status") then Some Status
     else (if bytes_eq page (codes "lint") then Some Lint
     else (if bytes_eq page (codes "explain") then Some Explain
-    else None))
+    else (if bytes_eq page (codes "trace") then Some Trace
+    else None)))
 
 -- `--version`, or `help` and a page
 abbrev pub page_asked : List Text → Option Told
@@ -26,3 +27,4 @@ page_text Version = codes "c62 " ++ VERSION.now ++ codes " (" ++ TOOLCHAIN.now +
 page_text Status = STATUS.now
 page_text Lint = LINT.now
 page_text Explain = EXPLAIN.now
+page_text Trace = TRACE.now

@@ -15,21 +15,19 @@ use Rattle.c62_dumping.specs.Cut.{dumped_in, files_of, report_in}
 use Rattle.c62_files.specs.Words.{dumps, text_piece, texts}
 use Rattle.c62_files.specs.Expand.{Expands, Holding}
 use Rattle.c62_files.specs.Writing.{AreBegun, AreWritten, IsReplaced}
-use Rattle.c62_files.specs.Call.{From, IsCall, Standard, File, Parts, is_standard, text_source}
+use Rattle.c62_files.specs.Call.{From, Standard, File, Named, Parts, is_standard, text_source}
 use Rattle.c62_files.specs.declared.call.Call.{Call}
 use Rattle.c62_teach.specs.declared.words.Linting.{Linting}
 use Rattle.c62_teach.specs.Words.{is_explained, is_lint, is_strict, is_watched, linting_of, plain_words}
 use Rattle.c62_teach.specs.Linted.{IsLinted}
 use Rattle.c62_teach.specs.Setting.{setting_taught}
 use Rattle.c62_program.specs.Joined.{IsJoined}
-use Rattle.c62_program.specs.Teaching.{AreToldOf, IsLintRun, IsTopicRun, RunsMore, behind_text, behind_words, is_topic, name_asked, status_with, text_name}
+use Rattle.c62_program.specs.Teaching.{AreToldOf, IsLintRun, RunsMore, behind_text, behind_words, status_with, text_name}
 use Rattle.c62_program.specs.Written.{IsWritten}
 use Rattle.c62_program.specs.declared.page.TheConstants.{LINT}
 use Rattle.c62_program.specs.declared.teaching.Asked.{Asked}
 use Rattle.c62_program.specs.declared.teaching.Asked.TheVariants.{Known, Unknown}
-use Rattle.c62_program.specs.Page.{page_asked, page_text}
-use Rattle.c62_program.specs.Trouble.{HasTrouble, IsSaid, status_of}
-use Rattle.c62_program.specs.declared.page.Page.{Page as Told}
+use Rattle.c62_program.specs.Trouble.{HasCallTrouble, HasTrouble, IsSaid, status_of}
 use Rattle.c62_program.specs.declared.trouble.Trouble.{Trouble}
 
 -- what a name stands for, where that is known: standard input or a file
@@ -55,6 +53,7 @@ pub record AreParts (holds : Holding) (input : Option (List ℕ)) (text listing 
 abbrev pub IsGiven : Holding → (input : Option (List ℕ)) → From → List ℕ → Type 0
 IsGiven holds input Standard bytes = IsHeld holds input (codes "-") bytes
 IsGiven holds input (File name) bytes = IsHeld holds input name bytes
+IsGiven holds input (Named name) bytes = IsHeld holds input (codes "-") bytes
 IsGiven holds input (Parts text listing) bytes = AreParts holds input text listing bytes
 
 -- the words ask for nothing
@@ -209,10 +208,8 @@ pub record IsFailure (before after : Holding) (words : List Text) (old new : Str
   pub unwritten : Keeps old.output new.output
   pub kept : HasBegun before after (dumps words)
 
--- What the program does: it prints a page, explains a name, or does what a call asks for, or there is trouble.
-pub data IsProgramRun (before after : Holding) (words : List Text) (old new : Streams) (status : ℕ) : Type 0 where
-  Page : (page : Told) → page_asked words ≡ Some page → IsWritten (page_text page) 0 old.output new.output old.errors new.errors status → IsProgramRun before after words old new status
-  Topic : page_asked words ≡ None → is_topic words ≡ true → IsTopicRun (name_asked words) old.output new.output old.errors new.errors status → IsProgramRun before after words old new status
-  Runs : (call : Call) → page_asked words ≡ None → is_topic words ≡ false → IsCall words call → RunsCall before after call old new status
-      → IsProgramRun before after words old new status
-  Fails : page_asked words ≡ None → is_topic words ≡ false → IsFailure before after words old new status → IsProgramRun before after words old new status
+-- What comes of a call: it does what it asks for, or there is trouble.
+pub data EndsCall (before after : Holding) (call : Call) (old new : Streams) (status : ℕ) : Type 0 where
+  Did : RunsCall before after call old new status → EndsCall before after call old new status
+  Failed : (trouble : Trouble) → HasCallTrouble before call trouble → status ≡ status_of trouble → IsSaid trouble old.errors new.errors
+      → Keeps old.output new.output → HasBegun before after (texts call.dumps.items) → EndsCall before after call old new status

@@ -8,7 +8,7 @@ use Rattle.clap.specs.Words.{Text}
 use Rattle.c62_answer.specs.Message.{Tells}
 use Rattle.c62_answer.specs.Run.{IsRun, Streams, streams}
 use Rattle.c62_command.specs.CommandLine.{Ask, asked}
-use Rattle.c62_files.specs.Call.{From, Standard, File, Parts}
+use Rattle.c62_files.specs.Call.{From, Standard, File, Named, Parts}
 use Rattle.c62_explain.specs.Topic.{page_in}
 use Rattle.c62_teach.specs.Apart.{TellsApart}
 use Rattle.c62_teach.specs.Faulted.{TellsFaults}
@@ -20,12 +20,14 @@ use Rattle.c62_program.specs.declared.page.TheConstants.{EXPLAIN}
 abbrev pub text_name : From → Text
 text_name Standard = codes "-"
 text_name (File name) = name
+text_name (Named name) = name
 text_name (Parts text listing) = text
 
 -- the same of the listing of a check
 abbrev pub listing_name : From → Text
 listing_name Standard = codes "-"
 listing_name (File name) = name
+listing_name (Named name) = name
 listing_name (Parts text listing) = listing
 
 -- ---- lint

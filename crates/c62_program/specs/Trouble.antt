@@ -5,7 +5,7 @@ use Rattle.std.specs.Borrow.{Bor}
 use Rattle.std.specs.Str.{bytes_eq}
 use Rattle.clap.specs.Words.{Text}
 use Rattle.c62_answer.specs.Message.{Telling, Tells}
-use Rattle.c62_files.specs.Call.{From, IsCall, IsMistake, Standard, File, Parts, is_standard, text_source}
+use Rattle.c62_files.specs.Call.{From, IsCall, IsMistake, Standard, File, Named, Parts, is_standard, text_source}
 use Rattle.c62_command.specs.CommandLine.{asked}
 use Rattle.c62_dumping.specs.Counts.{counts_asked}
 use Rattle.c62_files.specs.Expand.{Expands, Holding, IsUnexpanded}
@@ -46,6 +46,7 @@ IsTroubleWith name _ = ⊥
 abbrev pub IsTroubleWithSource : From → Trouble → Type 0
 IsTroubleWithSource Standard trouble = IsTroubleWith (codes "-") trouble
 IsTroubleWithSource (File name) trouble = IsTroubleWith name trouble
+IsTroubleWithSource (Named name) trouble = IsTroubleWith (codes "-") trouble
 IsTroubleWithSource (Parts text listing) trouble = IsTroubleWith text trouble ⊎ IsTroubleWith listing trouble
 
 -- writing the file of this name

@@ -7,8 +7,9 @@ mod page;
 mod program;
 mod teaching;
 mod topic;
+mod tracing;
 mod trouble;
 mod written;
 
-pub use page::{EXPLAIN, LINT};
+pub use page::{EXPLAIN, LINT, TRACE};
 pub use program::run_program;

@@ -21,6 +21,8 @@ Settings can stand in a file, as in: c62 run kernel.s --settings kernel.settings
 and the bytes of a file in memory, as in: c62 run kernel.s --load 0x100=table.bin
 Memory is printed below the report, as in: c62 run kernel.s --print 0x300+16:hd
 and written to a file, as in: c62 run kernel.s --dump 0x300+64=out.bin
+A run of sim or exec is told cycle by cycle, as in: c62 exec hand.asm --trace
+`c62 help trace` tells how.
 
 Status, and what standard error says:
   0  done, and nothing is said but how many cycles were added to drain packets
@@ -67,6 +69,24 @@ Example:
   c62 explain BadUnit
 ";
 
+/// How a run is traced (docs/TRACE.md).
+pub const TRACE: &str = "\
+Tells cycle by cycle what a run of packets does, beside its report
+
+Usage: c62 sim  [--trace[=FILE]] [--vcd <FILE>] [--from-cycle <N>] [--cycles-traced <N>] ..
+       c62 exec [--trace[=FILE]] [--vcd <FILE>] [--from-cycle <N>] [--cycles-traced <N>] ..
+
+Options:
+      --trace[=FILE]       Writes a line for each instruction that is issued, each store, and each
+                           write when it lands: to standard error, or to a file
+      --vcd <FILE>         Writes the run as a waveform, which GTKWave reads, to a file
+      --from-cycle <N>     Both begin with cycle N, 0 to 4294967295; 0 where none is given
+      --cycles-traced <N>  Both show N cycles, 1 to 4294967295; 10000 where none is given
+
+Example:
+  c62 exec hand.asm --trace --from-cycle 40 --cycles-traced 20
+";
+
 /// A page that the program tells of itself.
 #[derive(Clone, Copy, PartialEq, Eq, Debug)]
 pub enum Page {
@@ -78,6 +98,8 @@ pub enum Page {
     Lint,
     /// How `explain` is used: `help explain`.
     Explain,
+    /// How a run is traced: `help trace`.
+    Trace,
 }
 
 /// The page that this word asks for behind `help`.
@@ -90,6 +112,8 @@ fn help_page(page: &str) -> Option<Page>
         Some(Page::Lint)
     } else if page == "explain" {
         Some(Page::Explain)
+    } else if page == "trace" {
+        Some(Page::Trace)
     } else {
         None
     }
@@ -115,5 +139,6 @@ pub fn write_page<W: Write>(output: &mut W, page: Page) -> Result<(), Refused>
         Page::Status => write_whole(output, STATUS.as_bytes()),
         Page::Lint => write_whole(output, LINT.as_bytes()),
         Page::Explain => write_whole(output, EXPLAIN.as_bytes()),
+        Page::Trace => write_whole(output, TRACE.as_bytes()),
     }
 }

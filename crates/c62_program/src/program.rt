@@ -6,22 +6,27 @@ ghost use Rattle.c62_answer.specs.Run.{streams};
 ghost use Rattle.c62_files.specs.Call.{is_standard, text_source};
 ghost use Rattle.c62_files.specs.Words.{texts};
 ghost use Rattle.c62_answer.specs.Message.{Tells};
+ghost use Rattle.c62_program.specs.Whole.{IsProgramRun};
 ghost use Rattle.c62_program.specs.Trouble.{HasCallTrouble, IsTroubleWith, IsTroubleWithRun, IsTroubleWithSource, Says, is_early, status_of};
-ghost use Rattle.c62_program.specs.Page.{page_text};
+ghost use Rattle.c62_program.specs.Page.{page_asked, page_text};
+ghost use Rattle.c62_program.specs.Teaching.{is_topic};
+ghost use Rattle.c62_tracing.specs.Words.{is_traced};
 ghost use Rattle.c62_program.specs.Written.{IsWritten};
-ghost use Rattle.c62_program.specs.Program.{AreParts, HasBegun, IsGiven, IsHeld, IsProgramRun, IsRefused, RunsCall, RunsFrom, RunsTarget, RunsTo, RunsWords, is_made};
+ghost use Rattle.c62_program.specs.Program.{AreParts, HasBegun, IsGiven, IsHeld, EndsCall, IsRefused, RunsCall, RunsFrom, RunsTarget, RunsTo, RunsWords, is_made};
 
 use crate::dumping::{counts_for, run_dumping};
 use crate::joined::joined;
 use crate::page::{Page, page_asked, write_page};
 use crate::teaching::{run_lint, run_told};
 use crate::topic::{is_topic, run_topic};
+use crate::tracing::run_traced;
 use crate::trouble::{Trouble, report};
 use crate::written::status_behind;
 use c62_answer::{InputError, MOST_BYTES, read_text, run_tool};
 use c62_command::{CommandError, command_of};
 use c62_files::{Call, Folder, Source, call_of, expanded};
 use c62_teach::{is_explained, is_lint, is_strict, is_watched};
+use c62_tracing::is_traced;
 use std::alloc::{AllocError, Global};
 use std::convert::AsStr;
 use std::io::{Read, Write};
@@ -80,7 +85,7 @@ pub(crate) fn given<'a, F: Folder, R: Read>(
     ensures err { IfErr result (IsTroubleWithSource (text_source source.entry)) }
 {
     match source {
-        Source::Standard => part_of(alloc, folder, "-", input),
+        Source::Standard | Source::Named(_) => part_of(alloc, folder, "-", input),
         Source::File(name) => part_of(alloc, folder, name, input),
         Source::Parts(text, listing) => parts_of(alloc, folder, text, listing, input),
     }
@@ -257,7 +262,7 @@ fn print_page<W: Write, E: Write>(page: Page, output: &mut W, errors: &mut E) ->
 
 /// Says what the trouble is, and answers its status.
 #[tactic(auto, using(crate::proofs::Failing::says_told))]
-fn give_up<E: Write>(trouble: &Trouble<'_>, errors: &mut E) -> u8
+pub(crate) fn give_up<E: Write>(trouble: &Trouble<'_>, errors: &mut E) -> u8
     ensures status { result ≡ status_of trouble.now }
     ensures said { Says Tells trouble.now (E.contents errors.old) (E.contents errors.new) }
 {
@@ -265,8 +270,54 @@ fn give_up<E: Write>(trouble: &Trouble<'_>, errors: &mut E) -> u8
     trouble.status()
 }
 
-/// Runs the program on these words, which are those after its name, and answers its status. Texts come from the files that the words
-/// name, or from the reader, and the answer goes to the output or to a file (docs/COMMANDS.md, "Files").
+/// Does what a call asks for, or says what the trouble is.
+pub(crate) fn end_call<
+    'a,
+    H: AllocGlobal + Threads + Wait + Sync,
+    F: Folder,
+    R: Read,
+    W: Write,
+    E: Write,
+>(rt: &H, folder: &mut F, call: &Call<'a>, input: &mut R, output: &mut W, errors: &mut E) -> u8
+    ensures { let old = streams (R.remaining input.old) (W.contents output.old) (E.contents errors.old) in
+        let new = streams (R.remaining input.new) (W.contents output.new) (E.contents errors.new) in
+        EndsCall (F.holds folder.old) (F.holds folder.new) call.now old new result }
+{
+    match run_call(rt, folder, call, input, output, errors) {
+        Ok(status) => status,
+        Err(trouble) => give_up(&trouble, errors),
+    }
+}
+
+/// Does what words ask for that name neither a page nor a topic, and no trace.
+fn run_others<
+    H: AllocGlobal + Threads + Wait + Sync,
+    F: Folder,
+    S: AsStr,
+    R: Read,
+    W: Write,
+    E: Write,
+>(rt: &H, folder: &mut F, words: &[S], input: &mut R, output: &mut W, errors: &mut E) -> u8
+    requires page { page_asked (map S.text words.now) ≡ None }
+    requires topic { is_topic (map S.text words.now) ≡ false }
+    requires traced { is_traced (map S.text words.now) ≡ false }
+    ensures { let old = streams (R.remaining input.old) (W.contents output.old) (E.contents errors.old) in
+        let new = streams (R.remaining input.new) (W.contents output.new) (E.contents errors.new) in
+        IsProgramRun (F.holds folder.old) (F.holds folder.new) (map S.text words.now) old new result }
+{
+    let call = match call_of(rt.alloc(), words) {
+        Ok(call) => call,
+        Err(error) => return give_up(&Trouble::NoCall(error), errors),
+    };
+    match run_call(rt, folder, &call, input, output, errors) {
+        Ok(status) => status,
+        Err(trouble) => give_up(&trouble, errors),
+    }
+}
+
+/// Runs the program on these words, which are those after its name. Answers the stream of errors, which is taken since a trace may go
+/// through it, and the status. Texts come from the files that the words name, or from the reader, and the answer goes to the output or to
+/// a file (docs/COMMANDS.md, "Files").
 ///
 /// What [`run_tool`] promises of the bytes of a reader, it promises of the bytes that were read of a file. A file that the answer goes
 /// to holds all of it where there is one, and else what it held. So do the files that memory goes to, which are written before it.
@@ -276,24 +327,24 @@ pub fn run_program<
     S: AsStr,
     R: Read,
     W: Write,
-    E: Write,
->(rt: &H, folder: &mut F, words: &[S], input: &mut R, output: &mut W, errors: &mut E) -> u8
-    ensures { let old = streams (R.remaining input.old) (W.contents output.old) (E.contents errors.old) in
-        let new = streams (R.remaining input.new) (W.contents output.new) (E.contents errors.new) in
-        IsProgramRun (F.holds folder.old) (F.holds folder.new) (map S.text words.now) old new result }
+    E: Write + Drop,
+>(rt: &H, folder: &mut F, words: &[S], input: &mut R, output: &mut W, errors: E) -> (E, u8)
+    ensures { let old = streams (R.remaining input.old) (W.contents output.old) (E.contents errors) in
+        let new = streams (R.remaining input.new) (W.contents output.new) (E.contents result.0) in
+        IsProgramRun (F.holds folder.old) (F.holds folder.new) (map S.text words.now) old new result.1 }
 {
+    let mut errors = errors;
     if let Some(page) = page_asked(words) {
-        return print_page(page, output, errors);
+        let status = print_page(page, output, &mut errors);
+        return (errors, status);
     }
     if is_topic(words) {
-        return run_topic(rt.alloc(), words, output, errors);
+        let status = run_topic(rt.alloc(), words, output, &mut errors);
+        return (errors, status);
     }
-    let call = match call_of(rt.alloc(), words) {
-        Ok(call) => call,
-        Err(error) => return give_up(&Trouble::NoCall(error), errors),
-    };
-    match run_call(rt, folder, &call, input, output, errors) {
-        Ok(status) => status,
-        Err(trouble) => give_up(&trouble, errors),
+    if is_traced(words) {
+        return run_traced(rt, folder, words, input, output, errors);
     }
+    let status = run_others(rt, folder, words, input, output, &mut errors);
+    (errors, status)
 }

@@ -36,7 +36,7 @@ fn names_of<'a>(source: Source<'a>) -> Names<'a>
             text: "-",
             listing: "-",
         },
-        Source::File(name) => Names {
+        Source::File(name) | Source::Named(name) => Names {
             text: name,
             listing: name,
         },

@@ -1,6 +1,6 @@
 //! Runs on files, which stand on a shelf in memory.
 
-ghost use Rattle.std.specs.Prelude.{None};
+ghost use Rattle.std.specs.Prelude.{None, false};
 
 use crate::expect::equal;
 use c62_files::{FileError, Folder};
@@ -33,7 +33,11 @@ fn copy(alloc: Global, bytes: &[u8]) -> Result<Vec<u8>, AllocError> {
 }
 
 impl Folder for Shelf {
+    type Sheet = Vec<u8>;
+
     ghost holds = { λ _ _. None };
+
+    ghost is_known = { false };
 
     fn read(&self, alloc: Global, name: &str, limit: usize) -> Result<Vec<u8>, FileError> {
         for file in &self.files {
@@ -55,6 +59,18 @@ impl Folder for Shelf {
             }
         }
         Ok(())
+    }
+
+    fn begin(&mut self, alloc: Global, _name: &str) -> Result<Vec<u8>, FileError> {
+        Ok(Vec::new(alloc))
+    }
+
+    fn finish(&mut self, alloc: Global, name: &str, sheet: Vec<u8>) -> Result<(), FileError> {
+        self.replace(alloc, name, &sheet)
+    }
+
+    fn discard(&mut self, _sheet: Vec<u8>) -> Option<io::Error> {
+        None
     }
 }
 
@@ -713,8 +729,8 @@ fn runs<H: AllocGlobal + Threads + Wait + Abort + Sync>(
 ) {
     let mut reader = input;
     let mut output = Vec::new(rt.alloc());
-    let mut errors = Vec::new(rt.alloc());
-    let status = run_program(rt, shelf, words, &mut reader, &mut output, &mut errors);
+    let errors = Vec::new(rt.alloc());
+    let (errors, status) = run_program(rt, shelf, words, &mut reader, &mut output, errors);
     equal(rt, &errors.as_slice(), &wanted.1.as_bytes());
     equal(rt, &output.as_slice(), &wanted.0.as_bytes());
     equal(rt, &status, &wanted.2);

@@ -1,10 +1,10 @@
 //! Runs of `lint`, of `explain`, and of commands with `--explain` or `--strict`.
 
-ghost use Rattle.std.specs.Prelude.{None};
+ghost use Rattle.std.specs.Prelude.{None, false};
 
 use crate::expect::equal;
 use c62_files::{FileError, Folder};
-use c62_program::{EXPLAIN, LINT, run_program};
+use c62_program::{EXPLAIN, LINT, TRACE, run_program};
 use std::alloc::Global;
 use std::io;
 use std::process::Abort;
@@ -20,7 +20,11 @@ struct OneFile {
 }
 
 impl Folder for OneFile {
+    type Sheet = Vec<u8>;
+
     ghost holds = { λ _ _. None };
+
+    ghost is_known = { false };
 
     fn read(&self, alloc: Global, name: &str, _limit: usize) -> Result<Vec<u8>, FileError> {
         if name != "k.s" {
@@ -37,6 +41,18 @@ impl Folder for OneFile {
         self.written = written;
         Ok(())
     }
+
+    fn begin(&mut self, alloc: Global, _name: &str) -> Result<Vec<u8>, FileError> {
+        Ok(Vec::new(alloc))
+    }
+
+    fn finish(&mut self, alloc: Global, name: &str, sheet: Vec<u8>) -> Result<(), FileError> {
+        self.replace(alloc, name, &sheet)
+    }
+
+    fn discard(&mut self, _sheet: Vec<u8>) -> Option<io::Error> {
+        None
+    }
 }
 
 const UNKNOWN: &str = "-:1:2: error: UnknownMnemonic: a mnemonic is wanted here\n";
@@ -47,7 +63,7 @@ const TWICE: &str = "  add .l1 a1,a2,a3\n||  sub .l1 a4,a5,a6\n";
 const STORED: &str = "MVK 256,A4\nMVK 4,A1\nL: LDW *A4++,A2\nSTW A2,*B4++\nSUB A1,1,A1\n[A1] B L\n";
 
 /// Words, standard input, and the output, what is told and the status.
-const RUNS: [(&[&str], &str, &str, &str, u8); 36] = [
+const RUNS: [(&[&str], &str, &str, &str, u8); 37] = [
     (&["lint"], "MVK 1,A1\n", "", "", 0),
     (&["lint"], " FOO\n", UNKNOWN, "", 1),
     (&["lint", "--most", "1"], " FOO\n BAR\n", UNKNOWN, "", 1),
@@ -229,6 +245,7 @@ const RUNS: [(&[&str], &str, &str, &str, u8); 36] = [
     (&["explain"], "", "", EXPLAIN, 2),
     (&["help", "lint"], "", LINT, "", 0),
     (&["help", "explain"], "", EXPLAIN, "", 0),
+    (&["help", "trace"], "", TRACE, "", 0),
 ];
 
 /// Runs behind whose reports more is told.
@@ -376,8 +393,8 @@ fn runs<H: AllocGlobal + Threads + Wait + Abort + Sync>(
     };
     let mut reader = input.as_bytes();
     let mut answer = Vec::new(rt.alloc());
-    let mut told = Vec::new(rt.alloc());
-    let ended = run_program(rt, &mut folder, words, &mut reader, &mut answer, &mut told);
+    let told = Vec::new(rt.alloc());
+    let (told, ended) = run_program(rt, &mut folder, words, &mut reader, &mut answer, told);
     equal(rt, &told.as_slice(), &wanted.1.as_bytes());
     equal(rt, &answer.as_slice(), &wanted.0.as_bytes());
     equal(rt, &ended, &wanted.2);
@@ -407,16 +424,9 @@ fn what_lint_finds_goes_to_a_file(rt: HostRuntime) -> Result<(), Fail> {
     };
     let mut reader: &[u8] = b"";
     let mut answer = Vec::new(rt.alloc());
-    let mut told = Vec::new(rt.alloc());
+    let told = Vec::new(rt.alloc());
     let words = ["lint", "k.s", "-o", "faults"];
-    let ended = run_program(
-        &rt,
-        &mut folder,
-        &words,
-        &mut reader,
-        &mut answer,
-        &mut told,
-    );
+    let (told, ended) = run_program(&rt, &mut folder, &words, &mut reader, &mut answer, told);
     equal(&rt, &ended, &1);
     assert!(&rt; told.is_empty() && answer.is_empty());
     let line: &[u8] = b"k.s:1:2: error: UnknownMnemonic: a mnemonic is wanted here\n";

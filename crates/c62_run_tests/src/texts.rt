@@ -293,7 +293,7 @@ Options:
         &["sim", "-h"],
         "Reads a listing, runs its packets and reports the end
 
-Usage: c62 sim [--packets] [--blocks <N>] [--profile] [--strict] [--json] [-o <FILE>] [FILE] [SETTING]...
+Usage: c62 sim [--packets] [--blocks <N>] [--profile] [--strict] [--trace[=<FILE>]] [--vcd <FILE>] [--json] [-o <FILE>] [FILE] [SETTING]...
 
 Arguments:
   [SETTING]...  REG=NUMBER sets a register, @ADDRESS=NUMBER,.. words of memory; with :h or :b halves or bytes
@@ -305,6 +305,12 @@ Options:
       --strict      Ends with status 7 where an access faults, and else with 6 at the limit
       --json        Writes the same as a JSON document
   -h, --help        Print help
+
+To show the run as it goes:
+      --trace[=<FILE>]     Writes a line an event, to standard error or to a file
+      --vcd <FILE>         Writes a waveform, which GTKWave opens
+      --from-cycle <N>     The first cycle that is shown; 0 where none is given
+      --cycles-traced <N>  How many cycles are shown; 10000 where none is given
 ",
         "c62 sim kernel.lst A4=8 @8=99",
     ),

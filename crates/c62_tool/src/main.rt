@@ -24,12 +24,13 @@ fn main(rt: HostRuntime) -> ExitCode {
             return ExitCode::from(2);
         }
     };
-    ExitCode::from(run_program(
+    let (_, status) = run_program(
         &rt,
         &mut Disk::new(&rt),
         words.as_slice(),
         &mut rt.stdin(),
         &mut rt.stdout(),
-        &mut rt.stderr(),
-    ))
+        rt.stderr(),
+    );
+    ExitCode::from(status)
 }

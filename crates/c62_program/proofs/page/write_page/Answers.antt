@@ -11,3 +11,6 @@ returns-in-Lint g c = rw c.in-Lint.is (rw c.as_bytes-in-Lint.ensures.value at c.
 
 pub returns-in-Explain : goal.returns-in-Explain
 returns-in-Explain g c = rw c.in-Explain.is (rw c.as_bytes-in-Explain.ensures.value at c.write_whole-in-Explain.ensures)
+
+pub returns-in-Trace : goal.returns-in-Trace
+returns-in-Trace g c = rw c.in-Trace.is (rw c.as_bytes-in-Trace.ensures.value at c.write_whole-in-Trace.ensures)
