@@ -94,6 +94,15 @@ def is_half(value):
     return -32768 <= value <= 32767
 
 
+def saturated(value):
+    """The nearest number that a word holds, signed."""
+    return min(max(value, -(2**31)), 2**31 - 1)
+
+
+def signed(word):
+    return word - 2**32 if word >= 2**31 else word
+
+
 def line_of(name, mnemonic):
     """The line of a text in which this mnemonic stands first."""
     lines = (EXAMPLES / f"{name}.s").read_text().splitlines()
@@ -637,6 +646,110 @@ def noise():
     return start, start.then(A1=bit, A4=word), LIMIT, "limit"
 
 
+def full_division():
+    pairs = [(100, 7), (7, 100), (0, 5), (1, 1), (12345, 12345), (0xFFFFFFFF, 1), (1, 0xFFFFFFFF), (0xFFFFFFFF, 0xFFFFFFFF)]
+    pairs += [(0xFFFFFFFE, 0xFFFFFFFF), (0x80000000, 0x80000001), (0xFFFFFFFF, 0x80000000), (0x80000000, 3), (0xFFFFFFFF, 0xFFFF)]
+    pairs += [(0xDEADBEEF, 0xBEEF), (1000000007, 997), (65535, 65536), (1000, 7), (2000, 7), (4000000000, 300)]
+    n = len(pairs)
+    start = State(A1=n, A4=0x1F00, B4=0x2000).words(0x1F00, sum(pairs, ()))
+    results = [divmod(*pair) for pair in pairs]
+    # the digits of each quotient behind its first one
+    digits = [max(numerator.bit_length() - denominator.bit_length(), 0) for numerator, denominator in pairs]
+    (quotient, remainder), last = results[-1], digits[-1]
+    end = start.then(
+        A1=0,
+        A4=0x1F00 + 8 * n,
+        A5=quotient % 2**last,
+        A6=quotient,
+        A7=last,
+        A8=remainder,
+        B4=0x2000 + 8 * n,
+        B5=pairs[-1][1] << last >> 1,
+        B6=32 - pairs[-1][1].bit_length(),
+    ).words(0x2000, sum(results, ()))
+    turns = [max(-(-count // 7), 1) for count in digits]
+    return start, end, sum(1 + count + 1 for count in turns) + 1
+
+
+def full_saturated_fir():
+    h = [-32768, 12288, 32767, -30000, 4096]
+    x = [0, 0, 0, 0, 1, -1, 100, -1000, -32768, -32768, 32767, -32768, 32767, 32767, -32768, -32768, 5, 0, -3000, 2999, 700, -8]
+    x += [32767, -32768, -32768, 32767, 32767, 20000]
+    taps, older = len(h), len(h) - 1
+    outputs = len(x) - older
+    start = State(A4=0x2100 + 2 * older, A6=0x2200, A8=taps, B0=outputs, B4=0x2180)
+    start.halves(0x2100, x).halves(0x2180, h)
+
+    def rounded(total):
+        return saturated(saturated(total * 2**3) + 2**15) >> 16
+
+    y, late, ends = [], [], set()
+    for n in range(older, len(x)):
+        products = [2 * h[k] * x[n - k] for k in range(taps)]
+        total = 0
+        for product in map(saturated, products):
+            if saturated(total + product) != total + product:
+                ends.add(saturated(total + product))
+            total = saturated(total + product)
+        y.append(rounded(total))
+        late.append(rounded(sum(products)))
+    # sums reach both ends, and at each there is an output that would be another if the whole sum alone were held in a word
+    assert ends == {-(2**31), 2**31 - 1}
+    assert any(a < b for a, b in zip(y, late)) and any(a > b for a, b in zip(y, late))
+    end = start.then(
+        A1=0,
+        A3=2**15,
+        A4=0x2100 + 2 * len(x),
+        A5=0x2100 + 2 * (outputs - 2),
+        A6=0x2200 + 2 * outputs,
+        A7=y[-1],
+        A9=x[outputs - 1],
+        A10=2 * h[-1] * x[outputs - 1],
+        B0=0,
+        B5=0x2180 + 2 * taps,
+        B9=h[-1],
+    ).halves(0x2200, y)
+    return start, end, 1 + outputs * (1 + taps + 1)
+
+
+def full_wide_product():
+    x = [0, 1, 0xFFFFFFFF, 0x80000000, 0x80000000, 0x7FFFFFFF, 0x0000FFFF, 0xFFFF0000, 0x80000000, 0x12345678, 3000000000, 0xDEADBEEF]
+    y = [0, 0xFFFFFFFF, 0xFFFFFFFF, 0x80000000, 0x7FFFFFFF, 0x7FFFFFFF, 0x00010000, 0xFFFF0000, 0xFFFFFFFF, 0x9ABCDEF0, 5, 0xCAFEBABE]
+    n = len(x)
+    start = State(A1=n, A4=0x2300, A12=0x2400, B4=0x2380).words(0x2300, x).words(0x2380, y)
+    unsigned_products = [a * b for a, b in zip(x, y)]
+    signed_products = [signed(a) * signed(b) for a, b in zip(x, y)]
+    z = []
+    for wide, other in zip(unsigned_products, signed_products):
+        assert (wide - other) % 2**32 == 0
+        z += [wide % 2**32, wide >> 32, other >> 32]
+    # of the last product: the sum of the two in the middle, which carries, as the low word does; then two sums of the signed one
+    (a1, a0), (b1, b0) = divmod(x[-1], 65536), divmod(y[-1], 65536)
+    middle = a0 * b1 + a1 * b0
+    assert middle >= 2**32 and z[-3] < a0 * b0
+    inner = a0 * (signed(y[-1]) >> 16) + (a0 * b0 >> 16)
+    outer = (signed(x[-1]) >> 16) * b0 + inner % 65536
+    end = start.then(
+        A1=0,
+        A4=0x2300 + 4 * n,
+        A5=x[-1],
+        A6=a0 * b0,
+        A7=middle >> 32 << 16,
+        A8=middle >> 16,
+        A9=z[-2],
+        A10=z[-3],
+        A11=1,
+        A12=0x2400 + 12 * n,
+        B4=0x2380 + 4 * n,
+        B5=y[-1],
+        B6=inner >> 16,
+        B7=outer >> 16,
+        B8=z[-1],
+        B9=inner % 65536,
+    ).words(0x2400, z)
+    return start, end, n
+
+
 def exec_dot():
     x = [3, -1, 32767, -32768, -12345, 20000, -7, 30001, 5, -6, 255, 16384, -28672, 77, 1, -1, -20001, 9, 0, 12, 4, -32768]
     y = [-5, -32768, 32767, -32768, 23456, -20001, 9, -30002, 7, -256, 3, 32767, 11, -13, 17, 19, 2, -2, 3000, 1, -8, -32768]
@@ -711,13 +824,17 @@ KERNELS = [
     noise,
 ]
 
+# the kernels that need the full set of instructions: the text NAME.s of examples/full for each function full_NAME
+FULL = [full_division, full_saturated_fir, full_wide_product]
+
 
 def files():
     """Each file, and what it has to hold."""
-    for kernel in KERNELS:
+    for kernel in KERNELS + FULL:
         start, end, *ran = kernel()
+        path = EXAMPLES / "full" / kernel.__name__.removeprefix("full_") if kernel in FULL else EXAMPLES / kernel.__name__
         for suffix, lines in ("settings", start.settings()), ("report", end.report(*ran)):
-            yield EXAMPLES / f"{kernel.__name__}.{suffix}", "".join(line + "\n" for line in lines).encode()
+            yield path.with_suffix(f".{suffix}"), "".join(line + "\n" for line in lines).encode()
     for kernel in FLIGHTS:
         start, end, *ran = kernel()
         name = kernel.__name__.removeprefix("exec_")

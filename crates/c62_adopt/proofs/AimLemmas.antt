@@ -31,6 +31,7 @@ use Rattle.c62_adopt_cut.specs.Laws.{AreOver}
 use Rattle.c62_adopt_cut.proofs.KeptLemmas.{IsFree, text_kept}
 use Rattle.c62_adopt.specs.Blocks.{target_number, part_in, IsBlockOf}
 use Rattle.c62_read.proofs.CutLemmas.{all_more}
+use Rattle.c62_op.specs.declared.set.InstructionSet.{InstructionSet}
 
 -- ---- only branches to labels go to blocks
 
@@ -88,17 +89,18 @@ label_aimed : (label : Option Name) (start : ℕ) (drafts : Drafts) → AreAimed
 label_aimed None start drafts aimed = aimed
 label_aimed (Some label) start drafts aimed = new_aimed (all_drafts drafts) (Some label) start aimed
 
-line_aimed : (above : List Line) (number : ℕ) (drafts : Drafts) (line : Line) → IsWhole line → IsFree above drafts line
+line_aimed : (isa : InstructionSet) (above : List Line) (number : ℕ) (drafts : Drafts) (line : Line) → IsWhole isa line
+    → IsFree above drafts line
     → AreAimed (all_drafts drafts) → AreAimed (all_drafts (with_line number (stand_of above line) line drafts))
-line_aimed above number drafts line whole free aimed =
+line_aimed isa above number drafts line whole free aimed =
     let stand = stand_of above line in
     says_aimed number stand line.says (with_label line.label stand.cycle drafts)
     (label_aimed line.label stand.cycle drafts aimed) whole.target
 
-pub blocks_are_aimed : (text : List ℕ) → AreAimed (text_cut text).drafts
-blocks_are_aimed = text_kept (λ above number drafts. AreAimed (all_drafts drafts)) AreAimed (record {
+pub blocks_are_aimed : (isa : InstructionSet) (text : List ℕ) → AreAimed (text_cut isa text).drafts
+blocks_are_aimed isa = text_kept isa (λ above number drafts. AreAimed (all_drafts drafts)) AreAimed (record {
   first = tt;
-  next = line_aimed;
+  next = line_aimed isa;
   last = λ above number drafts aimed. aimed;
 })
 

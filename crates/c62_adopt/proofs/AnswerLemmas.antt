@@ -28,6 +28,7 @@ use Rattle.c62_adopt.proofs.Orders.{rules_same}
 use Rattle.c62_adopt.proofs.Breaches.{same_placed}
 use Rattle.c62_adopt.proofs.SortedLemmas.{same_listed}
 use Rattle.c62_packet.proofs.Placings.{same_packed}
+use Rattle.c62_op.specs.declared.set.InstructionSet.{InstructionSet}
 
 -- ---- one adoption
 
@@ -58,9 +59,10 @@ same_blocks whole (draft ∷ drafts) (p ∷ packets) (q ∷ others) one other =
     let rest = same_blocks whole drafts packets others one.1 other.1 in
     cc
 
-pub one_adoption : (drain : Bool) (text : List ℕ) → HasOneAdoption drain text
-one_adoption drain text packets others added more is also = (
-  same_blocks (code_cut text).drafts (code_cut text).drafts packets others is.read.cut.blocks also.read.cut.blocks,
+pub one_adoption : (isa : InstructionSet) (drain : Bool) (text : List ℕ) → HasOneAdoption isa drain text
+one_adoption isa drain text packets others added more is also = (
+  same_blocks (code_cut isa text).drafts
+      (code_cut isa text).drafts packets others is.read.cut.blocks also.read.cut.blocks,
   is.read.lacking ∙ sym also.read.lacking,
 )
 
@@ -124,23 +126,25 @@ pub both_read : (read : Result (List ℕ) CodeRefusal) (code : List ℕ) (refusa
 both_read (Ok other) code refusal one two = absurd cc
 both_read (Err other) code refusal one two = absurd cc
 
-pub not_refused : (drain : Bool) (text : List ℕ) (packets : List Packed) (added : ℕ) (fault : AdoptFault)
-    → IsAdopted drain text packets added
-    → Refuses drain text fault → fault ≡ Memory
-not_refused drain text packets added (Text fault) is refused =
-    absurd (no_fault (code_cut text).fault (first_in_flight drain (code_cut text)) (refusal_of fault) is.read.cut.whole
+pub not_refused : (isa : InstructionSet) (drain : Bool) (text : List ℕ) (packets : List Packed) (added : ℕ)
+    (fault : AdoptFault)
+    → IsAdopted isa drain text packets added
+    → Refuses isa drain text fault → fault ≡ Memory
+not_refused isa drain text packets added (Text fault) is refused =
+    absurd (no_fault (code_cut isa text).fault (first_in_flight drain (code_cut isa text))
+    (refusal_of fault) is.read.cut.whole
     is.read.cut.over refused.1.1)
-not_refused drain text packets added (Rule line rule) is refused = absurd
-    (no_first_breach (code_cut text).drafts packets line rule is.read.cut.blocks refused.1)
-not_refused drain text packets added (Code line cause) is refused = absurd
-    (both_read (code_read text) (code_in (code_read text)) (line, cause) is.coded refused)
-not_refused drain text packets added Memory is refused = refl
+not_refused isa drain text packets added (Rule line rule) is refused = absurd
+    (no_first_breach (code_cut isa text).drafts packets line rule is.read.cut.blocks refused.1)
+not_refused isa drain text packets added (Code line cause) is refused = absurd
+    (both_read (code_read isa text) (code_in (code_read isa text)) (line, cause) is.coded refused)
+not_refused isa drain text packets added Memory is refused = refl
 
 -- ---- where nothing lacks
 
-pub drains_nothing : (text : List ℕ) (packets : List Packed) → DrainsNothing text packets
-drains_nothing text packets added is =
-    let none = (lacks_none_where_over (code_cut text)).0 is.read.cut.over in (
+pub drains_nothing : (isa : InstructionSet) (text : List ℕ) (packets : List Packed) → DrainsNothing isa text packets
+drains_nothing isa text packets added is =
+    let none = (lacks_none_where_over (code_cut isa text)).0 is.read.cut.over in (
       is.read.lacking ∙ none.1,
       record {
         coded = is.coded;

@@ -33,6 +33,7 @@ use Rattle.c62_adopt.specs.Judged.{AreListed, AreLawful}
 use Rattle.c62_adopt.specs.Packing.{IsSound}
 use Rattle.c62_adopt.proofs.Placing.{as_many_listed}
 use Rattle.c62_packet.specs.declared.limits.TheConstants.{MOST_CYCLES}
+use Rattle.c62_op.specs.declared.set.InstructionSet.{InstructionSet}
 
 -- ---- when an instruction ends
 
@@ -217,8 +218,9 @@ issued_of (p ∷ placed) =
     let other = sum_by-cons (λ (r : Placed). cond (is_branching r) 1 0) p placed in
     omega (arith, one, other, issued_of placed)
 
-module _ (drafts : List Draft) (draft : Draft) (listed : List Placed) (lawful : AreLawful drafts draft.issues listed)
-    (sound : IsSound drafts draft) where
+module _ (isa : InstructionSet) (drafts : List Draft) (draft : Draft) (listed : List Placed)
+    (lawful : AreLawful drafts draft.issues listed)
+    (sound : IsSound isa drafts draft) where
   are : AreListed drafts draft.issues listed
   are = lawful.are
 
@@ -243,7 +245,7 @@ module _ (drafts : List Draft) (draft : Draft) (listed : List Placed) (lawful : 
       ends_by drafts draft.start (draft.start + MOST_CYCLES) MOST_CYCLES draft.issues are.placed are.stand.parts
       (omega arith) (in_time_by draft.issues sound.fine.placed)
     where
-      in_time_by : (issues : List Issue) → AllByRecursion (IsPlaced draft.start) issues
+      in_time_by : (issues : List Issue) → AllByRecursion (IsPlaced isa draft.start) issues
           → AllByRecursion (λ issue. end_of issue.parts (draft.start + issue.cycle) ≤ draft.start + MOST_CYCLES) issues
       in_time_by [] fine = tt
       in_time_by (issue ∷ issues) fine = (fine.0.in_time, in_time_by issues fine.1)

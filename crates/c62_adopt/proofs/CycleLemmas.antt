@@ -19,6 +19,7 @@ use Rattle.c62_adopt.specs.Answer.{IsAdopted, code_cut, code_in, code_read}
 use Rattle.c62_adopt.specs.Blocks.{IsBlockOf}
 use Rattle.c62_adopt.specs.Cycles.{AccountsForCycles, HaveRoom, cycles_listed, left_out}
 use Rattle.c62_adopt.proofs.BlockLemmas.{end_at, ends_by, length_within}
+use Rattle.c62_op.specs.declared.set.InstructionSet.{InstructionSet}
 
 -- ---- a block
 
@@ -99,10 +100,10 @@ added_is : (drain : Bool) (cut : Cut) (added : ℕ) → first_in_flight drain cu
 added_is true cut added over is = sym is
 added_is false cut added over is = sym (is ∙ ((lacks_none_where_over cut).0 over).1)
 
-pub accounts_for_cycles : (drain : Bool) (text : List ℕ) → AccountsForCycles drain text
-accounts_for_cycles drain text packets added is =
-    let cut = code_cut text in
-    let lines = blocks_are_of_lines (code_in (code_read text)) in
+pub accounts_for_cycles : (isa : InstructionSet) (drain : Bool) (text : List ℕ) → AccountsForCycles isa drain text
+accounts_for_cycles isa drain text packets added is =
+    let cut = code_cut isa text in
+    let lines = blocks_are_of_lines isa (code_in (code_read isa text)) in
     let early = rw (← lines.read.cycles) at lines.blocks.early in
     let all = accounts drain cut.drafts cut.cycles cut.drafts packets is.read.cut.blocks
     (blocks_are_over drain cut is.read.cut.over) lines.blocks.rising early in

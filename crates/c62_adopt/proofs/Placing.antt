@@ -25,6 +25,7 @@ use Rattle.c62_adopt_cut.specs.Laws.{IsPlaced, IsFine}
 use Rattle.c62_adopt_cut.specs.Drafted.{issue_of, draft_of}
 use Rattle.c62_packet.specs.declared.limits.TheConstants.{MOST_CYCLES}
 use Rattle.c62_read.specs.declared.limits.TheConstants.{MOST_INSTRUCTIONS}
+use Rattle.c62_op.specs.declared.set.InstructionSet.{InstructionSet}
 
 -- ---- the number of a label
 
@@ -100,20 +101,22 @@ lawful_keep drafts issues listed lawful = record {
 
 -- ---- what is fine may stand
 
-issue_stands : (start : ℕ) (issue : Issue) → IsPlaced start issue → MayStand issue
-issue_stands start issue placed =
+issue_stands : (isa : InstructionSet) (start : ℕ) (issue : Issue) → IsPlaced isa start issue → MayStand issue
+issue_stands isa start issue placed =
     let in_time = placed.in_time in record { unit = placed.unit; short = grind (arith, nat_tests) }
 
-stand_by : (start : ℕ) (issues : List IssueRead) → AllByRecursion (IsPlaced start) (map issue_of issues)
+stand_by : (isa : InstructionSet) (start : ℕ) (issues : List IssueRead)
+    → AllByRecursion (IsPlaced isa start) (map issue_of issues)
     → All (λ issue. MayStand (issue_of issue)) issues
-stand_by start [] fine = All-nil (λ (issue : IssueRead). MayStand (issue_of issue))
-stand_by start (issue ∷ issues) fine =
+stand_by isa start [] fine = All-nil (λ (issue : IssueRead). MayStand (issue_of issue))
+stand_by isa start (issue ∷ issues) fine =
     All-cons (λ (other : IssueRead). MayStand (issue_of other)) issue issues
-    (issue_stands start (issue_of issue) fine.0) (stand_by start issues fine.1)
+    (issue_stands isa start (issue_of issue) fine.0) (stand_by isa start issues fine.1)
 
-pub fine_stand : (draft : DraftRead) → IsFine (draft_of draft)
+pub fine_stand : (isa : InstructionSet) (draft : DraftRead) → IsFine isa (draft_of draft)
     → All (λ issue. MayStand (issue_of issue)) draft.issues.items
-fine_stand draft fine = stand_by draft.start draft.issues.items fine.placed
+fine_stand isa draft fine = stand_by isa draft.start draft.issues.items fine.placed
 
-pub fine_few : (draft : DraftRead) → IsFine (draft_of draft) → length draft.issues.items ≤ MOST_INSTRUCTIONS
-fine_few draft fine = let few = fine.few in omega (arith, few, length-map draft.issues.items issue_of)
+pub fine_few : (isa : InstructionSet) (draft : DraftRead) → IsFine isa (draft_of draft)
+    → length draft.issues.items ≤ MOST_INSTRUCTIONS
+fine_few isa draft fine = let few = fine.few in omega (arith, few, length-map draft.issues.items issue_of)

@@ -24,6 +24,7 @@ use Rattle.c62_adopt.specs.Breach.{KeepsRules, IsBreachIn, IsFirstBreach}
 use Rattle.c62_adopt.specs.Laws.{HasOneAnswer, HasOneRefusal}
 use Rattle.c62_adopt.proofs.Breaches.{same_placed}
 use Rattle.c62_adopt.proofs.AnswerLemmas.{both_read, one_adoption, not_refused, no_breach, front_part}
+use Rattle.c62_op.specs.declared.set.InstructionSet.{InstructionSet}
 
 -- ---- the first broken rule is one
 
@@ -137,33 +138,37 @@ same_refusal : (line other : ℕ) (cause next : CodeCause) (read : Result (List 
     → Code line cause ≡ Code other next
 same_refusal line other cause next read one two = grind arith
 
-pub one_refusal : (drain : Bool) (text : List ℕ) → HasOneRefusal drain text
-one_refusal drain text Memory other one two = inr (inl refl)
-one_refusal drain text (Text fault) Memory one two = inr (inr refl)
-one_refusal drain text (Rule line rule) Memory one two = inr (inr refl)
-one_refusal drain text (Code line cause) Memory one two = inr (inr refl)
-one_refusal drain text (Code line cause) (Code other next) one two = inl
-    (same_refusal line other cause next (code_read text) one two)
-one_refusal drain text (Code line cause) (Text fault) one two = absurd
-    (both_read (code_read text) (code_in (code_read text)) (line, cause) two.0 one)
-one_refusal drain text (Code line cause) (Rule other rule) one two = absurd
-    (both_read (code_read text) (code_in (code_read text)) (line, cause) two.0 one)
-one_refusal drain text (Text fault) (Code line cause) one two = absurd
-    (both_read (code_read text) (code_in (code_read text)) (line, cause) one.0 two)
-one_refusal drain text (Rule other rule) (Code line cause) one two = absurd
-    (both_read (code_read text) (code_in (code_read text)) (line, cause) one.0 two)
-one_refusal drain text (Text fault) (Text other) one two =
+pub one_refusal : (isa : InstructionSet) (drain : Bool) (text : List ℕ) → HasOneRefusal isa drain text
+one_refusal isa drain text Memory other one two = inr (inl refl)
+one_refusal isa drain text (Text fault) Memory one two = inr (inr refl)
+one_refusal isa drain text (Rule line rule) Memory one two = inr (inr refl)
+one_refusal isa drain text (Code line cause) Memory one two = inr (inr refl)
+one_refusal isa drain text (Code line cause) (Code other next) one two = inl
+    (same_refusal line other cause next (code_read isa text) one two)
+one_refusal isa drain text (Code line cause) (Text fault) one two = absurd
+    (both_read (code_read isa text) (code_in (code_read isa text)) (line, cause) two.0 one)
+one_refusal isa drain text (Code line cause) (Rule other rule) one two = absurd
+    (both_read (code_read isa text) (code_in (code_read isa text)) (line, cause) two.0 one)
+one_refusal isa drain text (Text fault) (Code line cause) one two = absurd
+    (both_read (code_read isa text) (code_in (code_read isa text)) (line, cause) one.0 two)
+one_refusal isa drain text (Rule other rule) (Code line cause) one two = absurd
+    (both_read (code_read isa text) (code_in (code_read isa text)) (line, cause) one.0 two)
+one_refusal isa drain text (Text fault) (Text other) one two =
     inl (ap Text (same_fault fault other (same_Some (refusal_of fault) (refusal_of other) (sym one.1.1 ∙ two.1.1))))
-one_refusal drain text (Text fault) (Rule line rule) one two = absurd
-    (none_broken (code_cut text).drafts line rule one.1.0 two.1)
-one_refusal drain text (Rule line rule) (Text fault) one two = absurd
-    (none_broken (code_cut text).drafts line rule two.1.0 one.1)
-one_refusal drain text (Rule line rule) (Rule other next) one two =
-    let same = first_breach_once (code_cut text).drafts line other rule next one.1 two.1 in
+one_refusal isa drain text (Text fault) (Rule line rule) one two = absurd
+    (none_broken (code_cut isa text).drafts line rule one.1.0 two.1)
+one_refusal isa drain text (Rule line rule) (Text fault) one two = absurd
+    (none_broken (code_cut isa text).drafts line rule two.1.0 one.1)
+one_refusal isa drain text (Rule line rule) (Rule other next) one two =
+    let same = first_breach_once (code_cut isa text).drafts line other rule next one.1 two.1 in
     let lines = same.0 in
     let rules = same.1 in
     inl cc
 
-pub one_answer : (drain : Bool) (text : List ℕ) → HasOneAnswer drain text
-one_answer drain text = record
-    { adoption = one_adoption drain text; refusal = not_refused drain text; one_refusal = one_refusal drain text }
+pub one_answer : (isa : InstructionSet) (drain : Bool) (text : List ℕ) → HasOneAnswer isa drain text
+one_answer isa drain text = record {
+  adoption = one_adoption isa drain text;
+  refusal = not_refused isa drain text;
+  one_refusal =
+      one_refusal isa drain text;
+}

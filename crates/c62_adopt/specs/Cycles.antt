@@ -4,6 +4,7 @@ use Rattle.c62_packet.specs.Packed.{Packed}
 use Rattle.c62_adopt_cut.specs.Blocks.{Draft}
 use Rattle.c62_adopt_cut.specs.Flight.{next_drained, next_start}
 use Rattle.c62_adopt.specs.Answer.{IsAdopted, code_cut}
+use Rattle.c62_op.specs.declared.set.InstructionSet.{InstructionSet}
 
 -- the cycles of all these packets, which are those of their listing
 abbrev pub cycles_listed : List Packed → ℕ
@@ -29,11 +30,11 @@ HaveRoom drain end _ _ = Unit {0}
 -- Each block's packets have room in its cycles. All cycles of the text, and those that were added, are those before its first
 -- block, those of the listing, and those that were left out. In the last nothing is issued or in flight, as the packets' cycles are
 -- all until they have landed or their branch has taken effect.
-pub record AreAccounted (drain : Bool) (text : List ℕ) (packets : List Packed) (added : ℕ) : Type 0 where
-  pub room : HaveRoom drain (code_cut text).cycles (code_cut text).drafts packets
-  pub sum : (code_cut text).cycles + added ≡ next_start (code_cut text).cycles (code_cut text).drafts
-      + (cycles_listed packets + left_out drain (code_cut text).cycles (code_cut text).drafts packets)
+pub record AreAccounted (isa : InstructionSet) (drain : Bool) (text : List ℕ) (packets : List Packed) (added : ℕ) : Type 0 where
+  pub room : HaveRoom drain (code_cut isa text).cycles (code_cut isa text).drafts packets
+  pub sum : (code_cut isa text).cycles + added ≡ next_start (code_cut isa text).cycles (code_cut isa text).drafts
+      + (cycles_listed packets + left_out drain (code_cut isa text).cycles (code_cut isa text).drafts packets)
 
 -- so it is of all that is adopted
-abbrev pub AccountsForCycles : Bool → List ℕ → Type 0
-AccountsForCycles drain text = (packets : List Packed) (added : ℕ) → IsAdopted drain text packets added → AreAccounted drain text packets added
+abbrev pub AccountsForCycles : InstructionSet → Bool → List ℕ → Type 0
+AccountsForCycles isa drain text = (packets : List Packed) (added : ℕ) → IsAdopted isa drain text packets added → AreAccounted isa drain text packets added

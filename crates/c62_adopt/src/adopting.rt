@@ -19,6 +19,7 @@ use c62_adopt_code::code_of;
 use c62_adopt_cut::{Cut, Draft, MOST_BYTES, TextFault, cycles_lacking, first_in_flight, read_cut};
 use c62_adopt_late::{Late, first_late};
 use c62_line::copied_label;
+use c62_op::InstructionSet;
 use c62_packet::{PacketBlock, Packets, Placed};
 use std::alloc::{AllocError, Global};
 
@@ -44,12 +45,13 @@ fn put(packets: &mut Packets, block: PacketBlock) -> Result<(), AllocError>
 
 /// The packet blocks of the blocks of a text, whose instructions these lists have.
 fn packets_of(
+    isa: InstructionSet,
     alloc: Global,
     drafts: &[Draft],
     lists: Vec<Vec<Placed>>,
 ) -> Result<Packets, AllocError>
     requires few { length drafts.now ≤ MOST_BLOCKS }
-    requires sound { All (λ draft. IsSound (map draft_of drafts.now) (draft_of draft)) drafts.now }
+    requires sound { All (λ draft. IsSound isa (map draft_of drafts.now) (draft_of draft)) drafts.now }
     requires lawful { AllZip (λ draft list. AreLawful (map draft_of drafts.now) (draft_of draft).issues list.items)
         drafts.now lists.items }
     ensures { IfOk result (AllZip (IsBlockOf (map draft_of drafts.now)) (map draft_of drafts.now)) }
@@ -77,20 +79,25 @@ fn fault_of(cut: &Cut, drain: bool) -> Option<TextFault>
 }
 
 /// The packets of a text's code. Where this is drained, the cycles that lack are added before the ends of its blocks; otherwise none are.
-fn adopt_code(alloc: Global, code: &[u8], drain: bool) -> Result<Adopted, AdoptFault>
-    ensures adopted { MatchResult result (λ adopted. IsAdoptedFrom drain (text_cut code.now) adopted.packets adopted.added) (λ fault. RefusesCut drain (text_cut code.now) fault) }
-    ensures late { IfOk result (λ adopted. adopted.late ≡ first_late (text_cut code.now)) }
+fn adopt_code(
+    isa: InstructionSet,
+    alloc: Global,
+    code: &[u8],
+    drain: bool,
+) -> Result<Adopted, AdoptFault>
+    ensures adopted { MatchResult result (λ adopted. IsAdoptedFrom drain (text_cut isa code.now) adopted.packets adopted.added) (λ fault. RefusesCut drain (text_cut isa code.now) fault) }
+    ensures late { IfOk result (λ adopted. adopted.late ≡ first_late (text_cut isa code.now)) }
     ensures closed { IfOk result (λ adopted. IsTrue (is_closed adopted.packets)) }
 {
-    let cut = read_cut(alloc, code)?;
-    let lists = match lists_of(alloc, &cut.drafts)? {
+    let cut = read_cut(isa, alloc, code)?;
+    let lists = match lists_of(isa, alloc, &cut.drafts)? {
         Ok(lists) => lists,
         Err((line, rule)) => return Err(AdoptFault::Rule(line, rule)),
     };
     if let Some(fault) = fault_of(&cut, drain) {
         return Err(AdoptFault::Text(fault));
     }
-    let packets = packets_of(alloc, &cut.drafts, lists)?;
+    let packets = packets_of(isa, alloc, &cut.drafts, lists)?;
     Ok(Adopted {
         packets,
         added: cycles_lacking(&cut),
@@ -105,15 +112,15 @@ fn adopt_code(alloc: Global, code: &[u8], drain: bool) -> Result<Adopted, AdoptF
 ///
 /// `Code` for the first line that keeps the text from having code. `Memory` where memory ran out, which may come in place of any answer.
 #[tactic(auto, using(crate::proofs::CodeLemmas::long_read, crate::proofs::CodeLemmas::short_read, crate::proofs::CodeLemmas::lacks_code))]
-pub fn read_code(alloc: Global, text: &[u8]) -> Result<Vec<u8>, AdoptFault>
-    ensures { MatchResult result (λ code. code_read text.now ≡ Ok code.items) (λ fault. LacksCode text.now fault) }
+pub fn read_code(isa: InstructionSet, alloc: Global, text: &[u8]) -> Result<Vec<u8>, AdoptFault>
+    ensures { MatchResult result (λ code. code_read isa text.now ≡ Ok code.items) (λ fault. LacksCode isa text.now fault) }
 {
     if MOST_BYTES < text.len() {
         let mut code = Vec::new(alloc);
         code.extend_from_slice(&text[..MOST_BYTES + 1])?;
         return Ok(code);
     }
-    match code_of(alloc, text) {
+    match code_of(isa, alloc, text) {
         Ok(code) => Ok(code),
         Err(fault) => Err(AdoptFault::from(fault)),
     }
@@ -131,13 +138,18 @@ pub fn read_code(alloc: Global, text: &[u8]) -> Result<Vec<u8>, AdoptFault>
 /// or because of the lines above it, and else for the first that has one because of the lines below it. `Memory` where memory ran out, which may
 /// come in place of any answer.
 #[tactic(auto, using(crate::proofs::CodeLemmas::adopted_by, crate::proofs::CodeLemmas::late_by, crate::proofs::CodeLemmas::refused_by, crate::proofs::CodeLemmas::refused_uncoded))]
-pub fn adopt(alloc: Global, text: &[u8], drain: bool) -> Result<Adopted, AdoptFault>
-    ensures adopted { MatchResult result (λ adopted. IsAdopted drain text.now adopted.packets adopted.added) (λ fault. Refuses drain text.now fault) }
-    ensures late { IfOk result (λ adopted. adopted.late ≡ first_late (code_cut text.now)) }
+pub fn adopt(
+    isa: InstructionSet,
+    alloc: Global,
+    text: &[u8],
+    drain: bool,
+) -> Result<Adopted, AdoptFault>
+    ensures adopted { MatchResult result (λ adopted. IsAdopted isa drain text.now adopted.packets adopted.added) (λ fault. Refuses isa drain text.now fault) }
+    ensures late { IfOk result (λ adopted. adopted.late ≡ first_late (code_cut isa text.now)) }
     ensures closed { IfOk result (λ adopted. IsTrue (is_closed adopted.packets)) }
 {
-    match read_code(alloc, text) {
-        Ok(code) => adopt_code(alloc, &code, drain),
+    match read_code(isa, alloc, text) {
+        Ok(code) => adopt_code(isa, alloc, &code, drain),
         Err(fault) => Err(fault),
     }
 }

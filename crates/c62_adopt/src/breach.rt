@@ -10,6 +10,7 @@ ghost use Rattle.c62_adopt.specs.Judged.{MayStand, AreLawful, BreakFirst};
 
 use crate::listed::listed;
 use c62_adopt_cut::{Draft, Issue};
+use c62_op::InstructionSet;
 use c62_packet::{PacketRule, Placed, first_broken};
 use std::alloc::{AllocError, Global};
 
@@ -39,13 +40,14 @@ fn judged(
 /// The first instruction of a block that breaks a rule with those above it, where all of them break this one: so many above it
 /// keep all rules, and with it they break one.
 fn breach_in(
+    isa: InstructionSet,
     alloc: Global,
     drafts: &[Draft],
     draft: &Draft,
     mut rule: PacketRule,
 ) -> Result<Breach, AllocError>
     requires few { length drafts.now ≤ MOST_BLOCKS }
-    requires fine { IsFine (draft_of draft.now) }
+    requires fine { IsFine isa (draft_of draft.now) }
     requires broken { BreakFirst (map draft_of drafts.now) (draft_of draft.now).issues rule }
     ensures { IfOk result (λ breach. IsBreachIn (map draft_of drafts.now) breach.0 breach.1 (draft_of draft.now)) }
 {
@@ -67,30 +69,32 @@ fn breach_in(
 
 /// The instructions of a block in listing order. An error is the first that breaks a rule with those above it.
 fn list_of(
+    isa: InstructionSet,
     alloc: Global,
     drafts: &[Draft],
     draft: &Draft,
 ) -> Result<Result<Vec<Placed>, Breach>, AllocError>
     requires few { length drafts.now ≤ MOST_BLOCKS }
-    requires fine { IsFine (draft_of draft.now) }
+    requires fine { IsFine isa (draft_of draft.now) }
     ensures { IfOk result (λ found. MatchResult found
         (λ list. AreLawful (map draft_of drafts.now) (draft_of draft.now).issues list.items)
         (λ breach. IsBreachIn (map draft_of drafts.now) breach.0 breach.1 (draft_of draft.now))) }
 {
     match judged(alloc, drafts, &draft.issues)? {
         Ok(list) => Ok(Ok(list)),
-        Err(rule) => Ok(Err(breach_in(alloc, drafts, draft, rule)?)),
+        Err(rule) => Ok(Err(breach_in(isa, alloc, drafts, draft, rule)?)),
     }
 }
 
 /// The instructions of each block of a text in listing order. An error is the first that breaks a rule with those above it in its
 /// block.
 pub(crate) fn lists_of(
+    isa: InstructionSet,
     alloc: Global,
     drafts: &[Draft],
 ) -> Result<Result<Vec<Vec<Placed>>, Breach>, AllocError>
     requires few { length drafts.now ≤ MOST_BLOCKS }
-    requires fine { All (λ draft. IsFine (draft_of draft)) drafts.now }
+    requires fine { All (λ draft. IsFine isa (draft_of draft)) drafts.now }
     ensures { IfOk result (λ found. MatchResult found
         (λ lists. AllZip (λ draft list. AreLawful (map draft_of drafts.now) (draft_of draft).issues list.items)
         drafts.now lists.items)
@@ -98,7 +102,7 @@ pub(crate) fn lists_of(
 {
     let mut lists = Vec::with_capacity(alloc, drafts.len())?;
     for draft in drafts {
-        match list_of(alloc, drafts, draft)? {
+        match list_of(isa, alloc, drafts, draft)? {
             Ok(list) => lists.push(list)?,
             Err(breach) => return Ok(Err(breach)),
         }

@@ -20,6 +20,7 @@ use Rattle.c62_listing_reader.proofs.ReadBackLemmas.{IsFit, all_writable, free_b
 use Rattle.c62_adopt_back.specs.Laws.{AreParted, ArePartedBehind}
 use Rattle.c62_adopt_back.proofs.Cycles.{BranchOnce, IsListed, branched_behind}
 use Rattle.c62_adopt_back.proofs.Walk.{AllGood}
+use Rattle.c62_op.specs.declared.set.InstructionSet.{InstructionSet}
 
 -- ---- the branch of a block
 
@@ -74,24 +75,26 @@ lasts cycles end (p ∷ placed) is once =
 
 -- ---- a block
 
-listed_by : (name : ℕ → Name) (cycles : ℕ) (placed : List Placed) → All (IsWritable name) placed
+listed_by : (isa : InstructionSet) (name : ℕ → Name) (cycles : ℕ) (placed : List Placed)
+    → All (IsWritable isa name) placed
     → AreDrained cycles placed
     → AllByRecursion (λ p. is_branching_placed p ≡ true → cycles ≡ p.cycle + 6) placed
-    → AllByRecursion (IsListed name cycles) placed
-listed_by name cycles [] writable drained last = tt
-listed_by name cycles (p ∷ placed) writable drained last = (
+    → AllByRecursion (IsListed isa name cycles) placed
+listed_by isa name cycles [] writable drained last = tt
+listed_by isa name cycles (p ∷ placed) writable drained last = (
   record { writable = writable 0 p (omega arith); fits = record { ends = drained 0 p (omega arith); last = last.0 } },
-  listed_by name cycles placed (All-tail (IsWritable name) p placed writable)
+  listed_by isa name cycles placed (All-tail (IsWritable isa name) p placed writable)
       (All-tail (λ (q : Placed). landing_end (issue_of q) ≤ cycles) p placed drained) last.1,
 )
 
 pub branch_once : (block : Packed) → IsPacketBlock block → BranchOnce false block.placed
 branch_once block is = once_by false block.placed (omega (arith, is.one_branch))
 
-pub all_listed : (name : ℕ → Name) (block : Packed) → IsPacketBlock block → All (IsWritable name) block.placed
-    → AllByRecursion (IsListed name block.cycles) block.placed
-all_listed name block is writable =
-    listed_by name block.cycles block.placed writable is.drained
+pub all_listed : (isa : InstructionSet) (name : ℕ → Name) (block : Packed) → IsPacketBlock block
+    → All (IsWritable isa name) block.placed
+    → AllByRecursion (IsListed isa name block.cycles) block.placed
+all_listed isa name block is writable =
+    listed_by isa name block.cycles block.placed writable is.drained
     (lasts block.cycles (last_landing_end (issues_of block.placed)) block.placed is.own_length (branch_once block is))
 
 -- ---- all blocks
@@ -108,21 +111,21 @@ cut_behind block [] parted = tt
 cut_behind block (next ∷ blocks) parted =
     (λ none. branched_by false block.placed (omega (arith, parted.0 none)), parted.1)
 
-module _ (packets : List Packed) (shown : AreShown packets) where
+module _ (isa : InstructionSet) (packets : List Packed) (shown : AreShown isa packets) where
   good : (passed blocks : List Packed) (cut : Bool) → IsDistinct bytes_eq (given (labels_of (passed ++ blocks)))
-      → AllByRecursion (IsFit packets shown) blocks → AreCutBehind cut blocks
-      → AllGood (name_in packets) passed cut blocks
+      → AllByRecursion (IsFit isa packets shown) blocks → AreCutBehind cut blocks
+      → AllGood isa (name_in packets) passed cut blocks
   unfolding AllGood AreCutBehind
   good passed [] cut distinct fits parted = tt
   good passed (block ∷ blocks) cut distinct fits parted =
       let fit = fits.0 in (
         record {
           label = fit.label;
-          free = λ label is. free_by packets shown passed blocks block label distinct is;
+          free = λ label is. free_by isa packets shown passed blocks block label distinct is;
           begun = fit.begun;
           parted = parted.0;
-          listed = all_listed (name_in packets) block fit.is (all_writable packets shown block fit);
-          order = order_by packets shown block.placed fit.is.in_order;
+          listed = all_listed isa (name_in packets) block fit.is (all_writable isa packets shown block fit);
+          order = order_by isa packets shown block.placed fit.is.in_order;
           once = branch_once block fit.is;
           few = fit.is.few;
           short = fit.is.short;
@@ -138,6 +141,6 @@ module _ (packets : List Packed) (shown : AreShown packets) where
   start_cut [] parted = tt
   start_cut (block ∷ blocks) parted = (λ none. refl, parted)
 
-  pub all_good : AllByRecursion (IsFit packets shown) packets → AreParted packets
-      → AllGood (name_in packets) [] true packets
+  pub all_good : AllByRecursion (IsFit isa packets shown) packets → AreParted packets
+      → AllGood isa (name_in packets) [] true packets
   all_good fits parted = good [] packets true shown.distinct fits (start_cut packets parted)

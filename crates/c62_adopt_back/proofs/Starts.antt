@@ -12,6 +12,7 @@ use Rattle.c62_adopt_back.proofs.Cuts.{AreCuts, cut_by_label}
 use Rattle.c62_adopt_back.proofs.Blocks.{IsAt, Site}
 use Rattle.c62_adopt_back.proofs.Leading.{Leads, no_lines, one_line}
 use Rattle.c62_read.specs.declared.limits.TheConstants.{MOST_BLOCKS}
+use Rattle.c62_op.specs.declared.set.InstructionSet.{InstructionSet}
 
 -- The blocks above are over, and the next begins in this cycle, where it has a label or they cut the text there.
 pub record AreOver (start : ℕ) (cut : Bool) (above : List Line) (drafts : Drafts) : Type 0 where
@@ -35,7 +36,8 @@ label_free : (above : List Line) (drafts : Drafts) (label : Name)
 unfolding hindrance labelling
 label_free above drafts label free few = grind (arith, nat_tests)
 
-module _ (name : ℕ → List ℕ) (start cycles : ℕ) (cut : Bool) (above : List Line) (drafts : Drafts)
+module _ (isa : InstructionSet) (name : ℕ → List ℕ) (start cycles : ℕ) (cut : Bool) (above : List Line)
+    (drafts : Drafts)
     (is : AreOver start cut above drafts) where
   abbrev site : Option Name → Site
   site label = record { name = name; done = all_drafts drafts; label = label; start = start; cycles = cycles }
@@ -72,13 +74,13 @@ module _ (name : ℕ → List ℕ) (start cycles : ℕ) (cut : Bool) (above : Li
   pub label_leads : (label : Option Name) (number : ℕ) → ((l : Name) → label ≡ Some l → is_label l ≡ true)
       → ((l : Name) → label ≡ Some l → list_any (λ draft. label_is l draft.label) (all_drafts drafts) ≡ false)
       → (label ≡ None → cut ≡ true) → length (all_drafts drafts) < MOST_BLOCKS
-      → Leads above drafts number (label_lines label) (IsAt (site label) 0 false [])
+      → Leads isa above drafts number (label_lines label) (IsAt (site label) 0 false [])
   unfolding labelling
-  label_leads None number good free parted few = no_lines above drafts number (IsAt (site None) 0 false [])
+  label_leads None number good free parted few = no_lines isa above drafts number (IsAt (site None) 0 false [])
       (unlabelled (parted refl))
   label_leads (Some label) number good free parted few =
-      one_line above drafts number (label ++ codes ":") (labelling label) (IsAt (site (Some label)) 0 false [])
-      (label_reads label (good label refl)) (label_free above drafts label (free label refl) few)
+      one_line isa above drafts number (label ++ codes ":") (labelling label) (IsAt (site (Some label)) 0 false [])
+      (label_reads isa label (good label refl)) (label_free above drafts label (free label refl) few)
       (labelled label number)
 
 -- ---- an empty line
@@ -87,12 +89,13 @@ gap_free : (above : List Line) (drafts : Drafts) → hindrance above drafts (lin
 unfolding hindrance
 gap_free above drafts = refl
 
-pub gap_leads : (start : ℕ) (cut : Bool) (above : List Line) (drafts : Drafts) (number : ℕ) (Is : List Line → Drafts
+pub gap_leads : (isa : InstructionSet) (start : ℕ) (cut : Bool) (above : List Line) (drafts : Drafts) (number : ℕ)
+    (Is : List Line → Drafts
     → Type 0)
     → AreOver start cut above drafts → ((a : List Line) → AreOver start cut a drafts → Is a drafts)
-    → Leads above drafts number ([] ∷ []) Is
-gap_leads start cut above drafts number Is are then_is =
-    one_line above drafts number [] (line_said false None Nothing) Is empty_reads (gap_free above drafts)
+    → Leads isa above drafts number ([] ∷ []) Is
+gap_leads isa start cut above drafts number Is are then_is =
+    one_line isa above drafts number [] (line_said false None Nothing) Is (empty_reads isa) (gap_free above drafts)
     (then_is (line_said false None Nothing ∷ above) (record {
       passed = omega (arith, are.passed);
       first = are.first;

@@ -17,6 +17,7 @@ use Rattle.c62_adopt_back.proofs.Leading.{Leads, no_lines, so_leads, then_lines}
 use Rattle.c62_adopt_back.proofs.Starts.{AreOver, gap_leads, label_leads}
 use Rattle.c62_read.specs.declared.limits.TheConstants.{MOST_BLOCKS, MOST_INSTRUCTIONS}
 use Rattle.c62_packet.specs.declared.limits.TheConstants.{MOST_CYCLES}
+use Rattle.c62_op.specs.declared.set.InstructionSet.{InstructionSet}
 
 -- ---- what is read of blocks
 
@@ -61,12 +62,13 @@ read_taken name start end label (d ∷ drafts) (b ∷ blocks) are =
 -- ---- a block
 
 -- what is asked of a block behind these, where its beginning is a cut without a label too
-pub record IsGood (name : ℕ → Name) (passed : List Packed) (cut : Bool) (block : Packed) : Type 0 where
+pub record IsGood (isa : InstructionSet) (name : ℕ → Name) (passed : List Packed) (cut : Bool)
+    (block : Packed) : Type 0 where
   pub label : (l : Name) → block.label ≡ Some l → is_label l ≡ true
   pub free : (l : Name) → block.label ≡ Some l → list_any (λ other. label_is l other.label) passed ≡ false
   pub begun : block.label ≡ None → 0 < length block.placed
   pub parted : block.label ≡ None → cut ≡ true
-  pub listed : AllByRecursion (IsListed name block.cycles) block.placed
+  pub listed : AllByRecursion (IsListed isa name block.cycles) block.placed
   pub order : (p : Placed) (rest : List Placed) → block.placed ≡ p ∷ rest → AreBehind p rest
   pub once : BranchOnce false block.placed
   pub few : length block.placed ≤ MOST_INSTRUCTIONS
@@ -80,13 +82,14 @@ pub record ArePassed (name : ℕ
   pub over : AreOver end cut above drafts
 
 -- a block with a branch has cycles
-some_cycles : (name : ℕ → Name) (cycles : ℕ) (branched : Bool) (placed : List Placed) → (branched ≡ true → 0 < cycles)
-    → AllByRecursion (IsListed name cycles) placed → branched_behind branched placed ≡ true
+some_cycles : (isa : InstructionSet) (name : ℕ → Name) (cycles : ℕ) (branched : Bool) (placed : List Placed)
+    → (branched ≡ true → 0 < cycles)
+    → AllByRecursion (IsListed isa name cycles) placed → branched_behind branched placed ≡ true
     → 0 < cycles
 unfolding branched_behind
-some_cycles name cycles branched [] some listed is = some is
-some_cycles name cycles branched (p ∷ placed) some listed is =
-    some_cycles name cycles (branched || is_branching_placed p) placed (λ here. omega (arith, listed.0.fits.ends))
+some_cycles isa name cycles branched [] some listed is = some is
+some_cycles isa name cycles branched (p ∷ placed) some listed is =
+    some_cycles isa name cycles (branched || is_branching_placed p) placed (λ here. omega (arith, listed.0.fits.ends))
     listed.1 is
 
 -- a block that is read to its end
@@ -114,11 +117,11 @@ block_passed site passed block branched above drafts read label cycles begun som
       };
     }
 
-module _ (name : ℕ → Name) where
+module _ (isa : InstructionSet) (name : ℕ → Name) where
   block_leads : (passed : List Packed) (block : Packed) (cut : Bool) (number : ℕ) (above : List Line) (drafts : Drafts)
       → length passed < MOST_BLOCKS
-      → ArePassed name passed cut above drafts → IsGood name passed cut block
-      → Leads above drafts number (block_lines name block)
+      → ArePassed name passed cut above drafts → IsGood isa name passed cut block
+      → Leads isa above drafts number (block_lines name block)
       (ArePassed name (passed ++ block ∷ []) (branched_behind false block.placed))
   block_leads passed block cut number above drafts few are good =
       let site : Site = record
@@ -129,31 +132,33 @@ module _ (name : ℕ → Name) where
       let free : (l : Name) → block.label ≡ Some l
       → list_any (λ draft. label_is l draft.label) (all_drafts drafts) ≡ false =
       λ l is. read_taken name 0 are.end l (all_drafts drafts) passed are.read ∙ good.free l is in
-      then_lines above drafts number (label_lines block.label) (cycle_lines name 0 block.cycles block.placed)
+      then_lines isa above drafts number (label_lines block.label) (cycle_lines name 0 block.cycles block.placed)
       (IsAt site 0 false [])
       (ArePassed name (passed ++ block ∷ []) branched)
-      (label_leads name are.end block.cycles cut above drafts are.over block.label number good.label free good.parted
+      (label_leads isa name are.end block.cycles cut above drafts are.over block.label number good.label free
+      good.parted
       some)
-      (λ a d n at. so_leads a d n (cycle_lines name 0 block.cycles block.placed)
+      (λ a d n at. so_leads isa a d n (cycle_lines name 0 block.cycles block.placed)
       (IsAt site block.cycles branched block.placed)
       (ArePassed name (passed ++ block ∷ []) branched)
-      (cycles_lead site some good.short block.placed n a d at good.listed good.order good.once good.few)
+      (cycles_lead isa site some good.short block.placed n a d at good.listed good.order good.once good.few)
       (λ a2 d2 at_end. block_passed site passed block branched a2 d2 are.read refl refl good.begun
-      (some_cycles name block.cycles false block.placed (λ no. absurd (false≢true no)) good.listed) at_end))
+      (some_cycles isa name block.cycles false block.placed (λ no. absurd (false≢true no)) good.listed) at_end))
 
 -- ---- all blocks
 
 -- each of these blocks is good behind those before it
-unfoldable pub AllGood : (ℕ → Name) → List Packed → Bool → List Packed → Type 0
-AllGood name passed cut [] = Unit {0}
-AllGood name passed cut (block ∷ blocks) =
-    IsGood name passed cut block × AllGood name (passed ++ block ∷ []) (branched_behind false block.placed) blocks
+unfoldable pub AllGood : InstructionSet → (ℕ → Name) → List Packed → Bool → List Packed → Type 0
+AllGood isa name passed cut [] = Unit {0}
+AllGood isa name passed cut (block ∷ blocks) =
+    IsGood isa name passed cut block
+    × AllGood isa name (passed ++ block ∷ []) (branched_behind false block.placed) blocks
 
 -- all are passed, wherever the last one is cut
 pub record AreAllPassed (name : ℕ → Name) (packets : List Packed) (above : List Line) (drafts : Drafts) : Type 0 where
   pub read : AreRead name 0 (cycles_of above) (all_drafts drafts) packets
 
-module _ (name : ℕ → Name) where
+module _ (isa : InstructionSet) (name : ℕ → Name) where
   all_passed : (packets : List Packed) (cut : Bool) (above : List Line) (drafts : Drafts)
       → ArePassed name packets cut above drafts
       → AreAllPassed name packets above drafts
@@ -161,25 +166,25 @@ module _ (name : ℕ → Name) where
 
   parted_lead : (passed blocks : List Packed) (cut : Bool) (number : ℕ) (above : List Line) (drafts : Drafts)
       → length passed + length blocks ≤ MOST_BLOCKS → ArePassed name passed cut above drafts
-      → AllGood name passed cut blocks
-      → Leads above drafts number (parted_lines name blocks) (AreAllPassed name (passed ++ blocks))
+      → AllGood isa name passed cut blocks
+      → Leads isa above drafts number (parted_lines name blocks) (AreAllPassed name (passed ++ blocks))
   unfolding AllGood
   parted_lead passed [] cut number above drafts few are good =
       rw (append-nil passed)
-      (no_lines above drafts number (AreAllPassed name passed) (all_passed passed cut above drafts are))
+      (no_lines isa above drafts number (AreAllPassed name passed) (all_passed passed cut above drafts are))
   parted_lead passed (block ∷ blocks) cut number above drafts few are good =
       let count : length (passed ++ block ∷ []) ≡ length passed + 1 = length-append passed (block ∷ []) in
       let next : Bool = branched_behind false block.placed in
       rw (← append_assoc passed (block ∷ []) blocks)
-      (then_lines above drafts number ([] ∷ []) (block_lines name block ++ parted_lines name blocks)
+      (then_lines isa above drafts number ([] ∷ []) (block_lines name block ++ parted_lines name blocks)
       (ArePassed name passed cut)
       (AreAllPassed name ((passed ++ block ∷ []) ++ blocks))
-      (gap_leads are.end cut above drafts number (ArePassed name passed cut) are.over
+      (gap_leads isa are.end cut above drafts number (ArePassed name passed cut) are.over
       (λ a over. record { end = are.end; read = are.read; over = over }))
-      (λ a d n at. then_lines a d n (block_lines name block) (parted_lines name blocks)
+      (λ a d n at. then_lines isa a d n (block_lines name block) (parted_lines name blocks)
       (ArePassed name (passed ++ block ∷ []) next)
       (AreAllPassed name ((passed ++ block ∷ []) ++ blocks))
-      (block_leads name passed block cut n a d (omega (arith, few)) at good.0)
+      (block_leads isa name passed block cut n a d (omega (arith, few)) at good.0)
       (λ a2 d2 n2 at2. parted_lead (passed ++ block ∷ []) blocks next n2 a2 d2 (omega (arith, few, count)) at2 good.1)))
 
   start_passed : ArePassed name [] true [] no_drafts
@@ -200,13 +205,15 @@ module _ (name : ℕ → Name) where
   }
 
   -- the lines of a listing are read as its blocks
-  pub all_lead : (packets : List Packed) → length packets ≤ MOST_BLOCKS → AllGood name [] true packets
-      → Leads [] no_drafts 1 (all_lines name packets) (AreAllPassed name packets)
+  pub all_lead : (packets : List Packed) → length packets ≤ MOST_BLOCKS → AllGood isa name [] true packets
+      → Leads isa [] no_drafts 1 (all_lines name packets) (AreAllPassed name packets)
   unfolding AllGood
-  all_lead [] few good = no_lines [] no_drafts 1 (AreAllPassed name []) (all_passed [] true [] no_drafts start_passed)
+  all_lead [] few good =
+      no_lines isa [] no_drafts 1 (AreAllPassed name []) (all_passed [] true [] no_drafts start_passed)
   all_lead (block ∷ blocks) few good =
       let next : Bool = branched_behind false block.placed in
-      then_lines [] no_drafts 1 (block_lines name block) (parted_lines name blocks) (ArePassed name (block ∷ []) next)
+      then_lines isa [] no_drafts 1 (block_lines name block) (parted_lines name blocks)
+      (ArePassed name (block ∷ []) next)
       (AreAllPassed name (block ∷ blocks))
-      (block_leads name [] block true 1 [] no_drafts (omega arith) start_passed good.0)
+      (block_leads isa name [] block true 1 [] no_drafts (omega arith) start_passed good.0)
       (λ a d n at. parted_lead (block ∷ []) blocks next n a d (omega (arith, few)) at good.1)

@@ -5,6 +5,7 @@ use Rattle.c62_packet.specs.Alike.{AreAlike}
 use Rattle.c62_listing.specs.Listing.{listing}
 use Rattle.c62_listing_reader.specs.Laws.{AreShown}
 use Rattle.c62_adopt.specs.Answer.{IsAdopted}
+use Rattle.c62_op.specs.declared.set.InstructionSet.{InstructionSet}
 
 -- some instruction of the block is a branch
 abbrev pub HasBranch : Packed → Type 0
@@ -21,11 +22,11 @@ AreParted [] = Unit {0}
 AreParted (block ∷ blocks) = ArePartedBehind block blocks
 
 -- the listing of packets is adopted, drained or not, and as what it lists: without a cycle more, and to the byte
-pub record IsAdoptedAsItself (drain : Bool) (packets : List Packed) : Type 0 where
+pub record IsAdoptedAsItself (isa : InstructionSet) (drain : Bool) (packets : List Packed) : Type 0 where
   pub others : List Packed
-  pub adopted : IsAdopted drain (listing packets) others 0
+  pub adopted : IsAdopted isa drain (listing packets) others 0
   pub alike : AreAlike packets others
   pub same : listing others ≡ listing packets
 
-abbrev pub ListingsStay : Bool → List Packed → Type 0
-ListingsStay drain packets = AreShown packets → AreParted packets → IsAdoptedAsItself drain packets
+abbrev pub ListingsStay : InstructionSet → Bool → List Packed → Type 0
+ListingsStay isa drain packets = AreShown isa packets → AreParted packets → IsAdoptedAsItself isa drain packets

@@ -12,6 +12,7 @@ use Rattle.c62_adopt_code.specs.Code.{Refusal, and_taken, code_below, code_line,
 use Rattle.c62_adopt_code.specs.Code.{section_behind, taken, text_section, way_behind, with_first}
 use Rattle.c62_adopt_code.specs.Way.{first_way}
 use Rattle.c62_adopt_code.specs.Laws.{AreOwnCode, is_plain, is_plain_role}
+use Rattle.c62_op.specs.declared.set.InstructionSet.{InstructionSet}
 
 home_role : (role : Role) (later : List ℕ → List ℕ) → is_plain_role role ≡ true → later text_section ≡ text_section
     → home_or role text_section (later (section_behind role text_section)) ≡ text_section
@@ -30,18 +31,19 @@ home_own (line ∷ lines) all =
     let parts = and_parts (is_plain line) (list_all is_plain lines) all in
     home_role (role_of line) (λ section. home_of section lines) parts.0 (home_own lines parts.1)
 
-module _ (line : List ℕ) (lines : List (List ℕ)) (way : Way) (number : ℕ) where
+module _ (isa : InstructionSet) (line : List ℕ) (lines : List (List ℕ)) (way : Way) (number : ℕ) where
   code_role : (unread : Bool) (role : Role) → is_plain_role role ≡ true
-      → ((next : Way) (behind : ℕ) → code_below text_section text_section next behind lines ≡ Ok lines)
+      → ((next : Way) (behind : ℕ) → code_below isa text_section text_section next behind lines ≡ Ok lines)
       → and_taken number (if unread then Ok true else taken (bytes_eq text_section text_section) text_section way role)
       (λ is. with_first (code_line is line)
-      (code_below text_section (section_behind role text_section) (way_behind (line_says (code_line is line)) way)
+      (code_below isa text_section (section_behind role text_section)
+      (way_behind (line_says isa (code_line is line)) way)
       (number + 1) lines))
       ≡ Ok (line ∷ lines)
-  code_role true Silent plain later = ap (with_first line) (later (way_behind (line_says line) way) (number + 1))
-  code_role false Silent plain later = ap (with_first line) (later (way_behind (line_says line) way) (number + 1))
-  code_role true Acts plain later = ap (with_first line) (later (way_behind (line_says line) way) (number + 1))
-  code_role false Acts plain later = ap (with_first line) (later (way_behind (line_says line) way) (number + 1))
+  code_role true Silent plain later = ap (with_first line) (later (way_behind (line_says isa line) way) (number + 1))
+  code_role false Silent plain later = ap (with_first line) (later (way_behind (line_says isa line) way) (number + 1))
+  code_role true Acts plain later = ap (with_first line) (later (way_behind (line_says isa line) way) (number + 1))
+  code_role false Acts plain later = ap (with_first line) (later (way_behind (line_says isa line) way) (number + 1))
   code_role unread Remark plain later = absurd cc
   code_role unread (Begins labelled name) plain later = absurd cc
   code_role unread Pads plain later = absurd cc
@@ -49,14 +51,14 @@ module _ (line : List ℕ) (lines : List (List ℕ)) (way : Way) (number : ℕ) 
   code_role unread Unknown plain later = absurd cc
   code_role unread Refused plain later = absurd cc
 
-below_own : (lines : List (List ℕ)) (way : Way) (number : ℕ) → list_all is_plain lines ≡ true
-    → code_below text_section text_section way number lines ≡ Ok lines
+below_own : (isa : InstructionSet) (lines : List (List ℕ)) (way : Way) (number : ℕ) → list_all is_plain lines ≡ true
+    → code_below isa text_section text_section way number lines ≡ Ok lines
 unfolding code_below
-below_own [] way number all = refl
-below_own (line ∷ lines) way number all =
+below_own isa [] way number all = refl
+below_own isa (line ∷ lines) way number all =
     let parts = and_parts (is_plain line) (list_all is_plain lines) all in
-    code_role line lines way number (not (is_readable line)) (role_of line) parts.0
-    (λ next behind. below_own lines next behind parts.1)
+    code_role isa line lines way number (not (is_readable line)) (role_of line) parts.0
+    (λ next behind. below_own isa lines next behind parts.1)
 
-pub own_code : (lines : List (List ℕ)) → AreOwnCode lines
-own_code lines all = rw (home_own lines all) (below_own lines first_way 1 all)
+pub own_code : (isa : InstructionSet) (lines : List (List ℕ)) → AreOwnCode isa lines
+own_code isa lines all = rw (home_own lines all) (below_own isa lines first_way 1 all)

@@ -20,6 +20,7 @@ use Rattle.c62_adopt_line.specs.Line.{with_front, with_label, words_say}
 use Rattle.c62_adopt_line.specs.Plain.{undotted}
 use Rattle.c62_adopt_code.specs.Statement.{behind_label, front_of, is_remark, label_of}
 use Rattle.c62_adopt_code.specs.Role.{Role, Remark, Silent, Acts, role_of, statement_role, unbarred}
+use Rattle.c62_op.specs.declared.set.InstructionSet.{InstructionSet}
 
 -- ---- a line that says something and has neither bars nor a label
 
@@ -28,12 +29,13 @@ dot_says : (lays : Bool) (says : Says) → cond lays (Ok Nothing) (Err (Read Dir
 dot_says true says is some = some (grind arith)
 dot_says false says is some = absurd cc
 
-words_act : (line : List ℕ) (words : List Word) (says : Says) → words_say false line words ≡ Ok says
+words_act : (isa : InstructionSet) (line : List ℕ) (words : List Word) (says : Says)
+    → words_say isa false line words ≡ Ok says
     → (says ≡ Nothing → ⊥)
     → statement_role false line words ≡ Acts
 unfolding statement_role
-words_act line [] says is some = absurd (some (grind arith))
-words_act line (word ∷ words) says is some = elim (cases_Bool (begins is_dot word)) [
+words_act isa line [] says is some = absurd (some (grind arith))
+words_act isa line (word ∷ words) says is some = elim (cases_Bool (begins is_dot word)) [
   | inl dot ↦ absurd (dot_says (lays_nothing (word ∷ words)) says (rw dot at is) some)
   | inr plain ↦ rw plain refl
 ]
@@ -44,23 +46,23 @@ front_says : (read : Result Says LineFault) (label : Option Word) (says : Says)
 front_says (Err fault) label says is = absurd cc
 front_says (Ok other) label says is = grind arith
 
-label_none : (line : List ℕ) (field : Option Word) (says : Says)
-    → with_label line field ≡ Ok (line_said false None says)
-    → (field ≡ None) × (statement_says false line ≡ Ok says)
-label_none line None says is = (refl, (front_says (statement_says false line) None says is).1)
-label_none line (Some label) says is = let found =
-    (front_says (statement_says false (behind_colon line)) (Some label) says is).0 in absurd cc
+label_none : (isa : InstructionSet) (line : List ℕ) (field : Option Word) (says : Says)
+    → with_label isa line field ≡ Ok (line_said false None says)
+    → (field ≡ None) × (statement_says isa false line ≡ Ok says)
+label_none isa line None says is = (refl, (front_says (statement_says isa false line) None says is).1)
+label_none isa line (Some label) says is = let found =
+    (front_says (statement_says isa false (behind_colon line)) (Some label) says is).0 in absurd cc
 
 beside_says : (read : Result Says LineFault) (says : Says) (label : Option Word)
     → with_front true None read ≡ Ok (line_said false label says) → ⊥
 beside_says (Err fault) says label is = cc
 beside_says (Ok other) says label is = grind arith
 
-bars_none : (line : List ℕ) (bars : Option (List ℕ)) (says : Says)
-    → with_bars line bars ≡ Ok (line_said false None says)
-    → (bars ≡ None) × (label_field (undotted true line) ≡ None) × (statement_says false line ≡ Ok says)
-bars_none line (Some rest) says is = absurd (beside_says (statement_says true rest) says None is)
-bars_none line None says is = let found = label_none line (label_field (undotted true line)) says is in
+bars_none : (isa : InstructionSet) (line : List ℕ) (bars : Option (List ℕ)) (says : Says)
+    → with_bars isa line bars ≡ Ok (line_said false None says)
+    → (bars ≡ None) × (label_field (undotted true line) ≡ None) × (statement_says isa false line ≡ Ok says)
+bars_none isa line (Some rest) says is = absurd (beside_says (statement_says isa true rest) says None is)
+bars_none isa line None says is = let found = label_none isa line (label_field (undotted true line)) says is in
     (refl, found.0, found.1)
 
 -- what a line by itself says in these cases
@@ -77,12 +79,13 @@ steps_of true true star rest line other is = absurd cc
 steps_of true false true rest line other is = absurd cc
 steps_of true false false rest line other is = record { short = refl; says = is }
 
-line_steps : (bytes : List ℕ) (line : Line) → begins is_star bytes ≡ false → line_says bytes ≡ Ok line
-    → AreSteps (ltb MOST_LINE (length bytes)) (with_bars bytes (behind_bars bytes)) line
+line_steps : (isa : InstructionSet) (bytes : List ℕ) (line : Line) → begins is_star bytes ≡ false
+    → line_says isa bytes ≡ Ok line
+    → AreSteps (ltb MOST_LINE (length bytes)) (with_bars isa bytes (behind_bars bytes)) line
 unfolding line_says
-line_steps bytes line other is =
+line_steps isa bytes line other is =
     steps_of (list_all is_allowed bytes) (ltb MOST_LINE (length bytes)) (begins is_star bytes)
-    (with_bars bytes (behind_bars bytes)) line other is
+    (with_bars isa bytes (behind_bars bytes)) line other is
 
 front_whole : (bytes : List ℕ) → ltb MOST_LINE (length bytes) ≡ false → front_of bytes ≡ bytes
 front_whole bytes short = take_all MOST_LINE bytes (grind (arith, nat_tests))
@@ -91,49 +94,51 @@ acts_so : (bytes : List ℕ) (label : Option Word) → label ≡ None → statem
     → statement_role (is_some label) (behind_label label bytes) (tokens (behind_label label bytes)) ≡ Acts
 acts_so bytes label none is = rw none is
 
-pub acts_by : (bytes : List ℕ) (says : Says) → is_remark bytes ≡ false → begins is_star bytes ≡ false
-    → line_says bytes ≡ Ok (line_said false None says) → (says ≡ Nothing → ⊥) → role_of bytes ≡ Acts
+pub acts_by : (isa : InstructionSet) (bytes : List ℕ) (says : Says) → is_remark bytes ≡ false
+    → begins is_star bytes ≡ false
+    → line_says isa bytes ≡ Ok (line_said false None says) → (says ≡ Nothing → ⊥) → role_of bytes ≡ Acts
 unfolding role_of statement_says
-acts_by bytes says plain other is some =
-    let steps = line_steps bytes (line_said false None says) other is in
-    let parts = bars_none bytes (behind_bars bytes) says steps.says in
+acts_by isa bytes says plain other is some =
+    let steps = line_steps isa bytes (line_said false None says) other is in
+    let parts = bars_none isa bytes (behind_bars bytes) says steps.says in
     let label : label_of (front_of bytes) ≡ None = ap label_of (front_whole bytes steps.short) ∙ parts.1 in
     rw (plain, parts.0) (acts_so bytes (label_of (front_of bytes)) label
-    (words_act bytes (tokens bytes) says parts.2 some))
+    (words_act isa bytes (tokens bytes) says parts.2 some))
 
 -- ---- a line that is a label
 
-label_some : (line : List ℕ) (field : Option Word) (label : Word) (says : Says)
-    → with_label line field ≡ Ok (line_said false (Some label) says)
+label_some : (isa : InstructionSet) (line : List ℕ) (field : Option Word) (label : Word) (says : Says)
+    → with_label isa line field ≡ Ok (line_said false (Some label) says)
     → field ≡ Some label
-label_some line None label says is = absurd (no_label (statement_says false line) is)
+label_some isa line None label says is = absurd (no_label (statement_says isa false line) is)
   where
     no_label : (read : Result Says LineFault) → with_front false None read ≡ Ok (line_said false (Some label) says) → ⊥
     no_label (Err fault) is = cc
     no_label (Ok other) is = grind arith
-label_some line (Some other) label says is = so (statement_says false (behind_colon line)) is
+label_some isa line (Some other) label says is = so (statement_says isa false (behind_colon line)) is
   where
     so : (read : Result Says LineFault) → with_front false (Some other) read ≡ Ok (line_said false (Some label) says)
         → Some other ≡ Some label
     so (Err fault) is = absurd cc
     so (Ok said) is = grind arith
 
-bars_label : (line : List ℕ) (bars : Option (List ℕ)) (label : Word) (says : Says)
-    → with_bars line bars ≡ Ok (line_said false (Some label) says)
+bars_label : (isa : InstructionSet) (line : List ℕ) (bars : Option (List ℕ)) (label : Word) (says : Says)
+    → with_bars isa line bars ≡ Ok (line_said false (Some label) says)
     → (bars ≡ None) × (label_field (undotted true line) ≡ Some label)
-bars_label line (Some rest) label says is = absurd (beside_says (statement_says true rest) says (Some label) is)
-bars_label line None label says is = (refl, label_some line (label_field (undotted true line)) label says is)
+bars_label isa line (Some rest) label says is = absurd (beside_says (statement_says isa true rest) says (Some label) is)
+bars_label isa line None label says is = (refl, label_some isa line (label_field (undotted true line)) label says is)
 
 silent_so : (bytes : List ℕ) (found : Option Word) (label : Word) → found ≡ Some label → behind_colon bytes ≡ []
     → statement_role (is_some found) (behind_label found bytes) (tokens (behind_label found bytes)) ≡ Silent
 unfolding statement_role
 silent_so bytes found label is empty = rw (is, empty) refl
 
-pub silent_by : (bytes : List ℕ) (label : Word) → is_remark bytes ≡ false → begins is_star bytes ≡ false
-    → line_says bytes ≡ Ok (line_said false (Some label) Nothing) → behind_colon bytes ≡ [] → role_of bytes ≡ Silent
+pub silent_by : (isa : InstructionSet) (bytes : List ℕ) (label : Word) → is_remark bytes ≡ false
+    → begins is_star bytes ≡ false
+    → line_says isa bytes ≡ Ok (line_said false (Some label) Nothing) → behind_colon bytes ≡ [] → role_of bytes ≡ Silent
 unfolding role_of
-silent_by bytes label plain other is empty =
-    let steps = line_steps bytes (line_said false (Some label) Nothing) other is in
-    let parts = bars_label bytes (behind_bars bytes) label Nothing steps.says in
+silent_by isa bytes label plain other is empty =
+    let steps = line_steps isa bytes (line_said false (Some label) Nothing) other is in
+    let parts = bars_label isa bytes (behind_bars bytes) label Nothing steps.says in
     let found : label_of (front_of bytes) ≡ Some label = ap label_of (front_whole bytes steps.short) ∙ parts.1 in
     rw (plain, parts.0) (silent_so bytes (label_of (front_of bytes)) label found empty)

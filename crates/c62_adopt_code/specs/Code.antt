@@ -13,6 +13,7 @@ use Rattle.c62_adopt_code.specs.declared.way.Way.{Way}
 use Rattle.c62_adopt_code.specs.Statement.{is_readable}
 use Rattle.c62_adopt_code.specs.Role.{Role, Remark, Silent, Acts, Begins, Pads, Tells, Unknown, Refused, role_of}
 use Rattle.c62_adopt_code.specs.Way.{comes_nothing, first_way, way_on}
+use Rattle.c62_op.specs.declared.set.InstructionSet.{InstructionSet}
 
 -- where a text begins
 abbrev pub text_section : List ℕ
@@ -76,15 +77,15 @@ with_first line (Ok lines) = Ok (line ∷ lines)
 with_first line (Err refusal) = Err refusal
 
 -- these lines in the same number, of which the first has this one, with those that aren't of the code empty
-unfoldable pub code_below : List ℕ → List ℕ → Way → ℕ → List (List ℕ) → Result (List (List ℕ)) Refusal
-code_below home section way number [] = Ok []
-code_below home section way number (line ∷ lines) =
+unfoldable pub code_below : InstructionSet → List ℕ → List ℕ → Way → ℕ → List (List ℕ) → Result (List (List ℕ)) Refusal
+code_below isa home section way number [] = Ok []
+code_below isa home section way number (line ∷ lines) =
     and_taken number (line_taken (bytes_eq home section) line section way)
     (λ is. with_first (code_line is line)
-    (code_below home (section_behind (role_of line) section) (way_behind (line_says (code_line is line)) way) (number + 1) lines))
+    (code_below isa home (section_behind (role_of line) section) (way_behind (line_says isa (code_line is line)) way) (number + 1) lines))
 
-abbrev pub lines_coded : List (List ℕ) → Result (List (List ℕ)) Refusal
-lines_coded lines = code_below (home_of text_section lines) text_section first_way 1 lines
+abbrev pub lines_coded : InstructionSet → List (List ℕ) → Result (List (List ℕ)) Refusal
+lines_coded isa lines = code_below isa (home_of text_section lines) text_section first_way 1 lines
 
 -- lines, each with a line feed behind it
 abbrev pub text_of : List (List ℕ) → List ℕ
@@ -101,13 +102,13 @@ shortened (Ok code) = Ok (take most_bytes code)
 shortened (Err refusal) = Err refusal
 
 -- the code of a text whose lines are spelled as the reader of lines has it, line by line
-unfoldable pub plain_code : List ℕ → Result (List ℕ) Refusal
-plain_code text = shortened (below [] (lines_coded (lines_of text)))
+unfoldable pub plain_code : InstructionSet → List ℕ → Result (List ℕ) Refusal
+plain_code isa text = shortened (below [] (lines_coded isa (lines_of text)))
 
 -- a text that is too long so is its own code, and isn't looked at
-abbrev pub code_if_short : List ℕ → Result (List ℕ) Refusal
-code_if_short text = if nat_lt (most_bytes + 1) (length text) then Ok (take (most_bytes + 1) text) else plain_code text
+abbrev pub code_if_short : InstructionSet → List ℕ → Result (List ℕ) Refusal
+code_if_short isa text = if nat_lt (most_bytes + 1) (length text) then Ok (take (most_bytes + 1) text) else plain_code isa text
 
 -- the code of a text
-unfoldable pub code_of : List ℕ → Result (List ℕ) Refusal
-code_of text = code_if_short (spelled_text text)
+unfoldable pub code_of : InstructionSet → List ℕ → Result (List ℕ) Refusal
+code_of isa text = code_if_short isa (spelled_text isa text)

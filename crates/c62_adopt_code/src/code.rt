@@ -14,6 +14,7 @@ use crate::way::Way;
 use c62_adopt_cut::MOST_BYTES;
 use c62_adopt_line::{LineFault, read_line};
 use c62_adopt_spell::spelled_text;
+use c62_op::InstructionSet;
 use c62_read::first_line;
 use std::alloc::{AllocError, Global};
 
@@ -121,12 +122,17 @@ fn code_line(is: bool, line: &[u8]) -> &[u8]
 }
 
 /// The way below a line of the code.
-fn way_behind(plain: &mut Vec<u8>, line: &[u8], way: Way) -> Result<Way, AllocError>
+fn way_behind(
+    isa: InstructionSet,
+    plain: &mut Vec<u8>,
+    line: &[u8],
+    way: Way,
+) -> Result<Way, AllocError>
     requires { way.age ≤ 6 }
-    ensures way { IfOk result (λ new. new ≡ way_behind (line_says line.now) way) }
+    ensures way { IfOk result (λ new. new ≡ way_behind (line_says isa line.now) way) }
     ensures young { IfOk result (λ new. new.age ≤ 6) }
 {
-    match read_line(plain, line) {
+    match read_line(isa, plain, line) {
         Ok(written) => Ok(way.on(&written)),
         Err(LineFault::Memory) => Err(AllocError),
         Err(LineFault::Read(_) | LineFault::UnitWanted) => Ok(way),
@@ -147,13 +153,14 @@ impl<'a> Site<'a> {
     #[tactic(auto, using(crate::proofs::CodeLemmas::taken_so, crate::proofs::CodeLemmas::refused_so))]
     fn behind_line(
         self,
+        isa: InstructionSet,
         code: &mut Vec<u8>,
         plain: &mut Vec<u8>,
         number: u32,
         line: &'a [u8],
     ) -> Result<Site<'a>, CodeFault>
         requires { self.way.age ≤ 6 }
-        ensures { MatchResult result (TakesLine number line.now self.entry code.old.items code.new.items) (RefusesLine number line.now self.entry) }
+        ensures { MatchResult result (TakesLine isa number line.now self.entry code.old.items code.new.items) (RefusesLine isa number line.now self.entry) }
     {
         let role = read_role(line);
         let here = self.home == self.section;
@@ -165,7 +172,7 @@ impl<'a> Site<'a> {
                 Ok(Site {
                     home: self.home,
                     section: section_behind(role, self.section),
-                    way: way_behind(plain, line, self.way)?,
+                    way: way_behind(isa, plain, line, self.way)?,
                 })
             }
         }
@@ -175,9 +182,9 @@ impl<'a> Site<'a> {
 /// The code of a text whose lines are in the spelling that the reader of lines has: its lines, each with a line feed behind it, in which those are
 /// empty that say nothing.
 #[tactic(auto, using(crate::proofs::CodeLemmas::refused_there))]
-fn plain_code(alloc: Global, text: &[u8]) -> Result<Vec<u8>, CodeFault>
+fn plain_code(isa: InstructionSet, alloc: Global, text: &[u8]) -> Result<Vec<u8>, CodeFault>
     requires { length text.now ≤ MOST_BYTES + 1 }
-    ensures { MatchResult result (λ code. plain_code text.now ≡ Ok code.items) (λ fault. FailsWith fault (plain_code text.now)) }
+    ensures { MatchResult result (λ code. plain_code isa text.now ≡ Ok code.items) (λ fault. FailsWith fault (plain_code isa text.now)) }
 {
     let mut code = Vec::new(alloc);
     let mut plain = Vec::new(alloc);
@@ -189,7 +196,7 @@ fn plain_code(alloc: Global, text: &[u8]) -> Result<Vec<u8>, CodeFault>
     let mut rest = text;
     let mut number = 1;
     while let Some((line, after)) = first_line(rest) {
-        site = site.behind_line(&mut code, &mut plain, number, line)?;
+        site = site.behind_line(isa, &mut code, &mut plain, number, line)?;
         number += 1;
         rest = after;
     }
@@ -209,14 +216,14 @@ fn plain_code(alloc: Global, text: &[u8]) -> Result<Vec<u8>, CodeFault>
 /// whose padding may take cycles that code above runs through (docs/ADOPT.md, "Alignment"), and `Directive` for a directive that has another
 /// statement behind it, or may lay something down. `Memory` where memory ran out, which may come in place of any answer.
 #[tactic(auto, unfolding(crate::specs::Code::code_of))]
-pub fn code_of(alloc: Global, text: &[u8]) -> Result<Vec<u8>, CodeFault>
+pub fn code_of(isa: InstructionSet, alloc: Global, text: &[u8]) -> Result<Vec<u8>, CodeFault>
     requires { length text.now ≤ MOST_BYTES }
-    ensures { MatchResult result (λ code. code_of text.now ≡ Ok code.items) (λ fault. FailsWith fault (code_of text.now)) }
+    ensures { MatchResult result (λ code. code_of isa text.now ≡ Ok code.items) (λ fault. FailsWith fault (code_of isa text.now)) }
 {
-    let mut spelled = spelled_text(alloc, text)?;
+    let mut spelled = spelled_text(isa, alloc, text)?;
     if spelled.len() > MOST_BYTES + 1 {
         spelled.truncate(MOST_BYTES + 1);
         return Ok(spelled);
     }
-    plain_code(alloc, &spelled)
+    plain_code(isa, alloc, &spelled)
 }

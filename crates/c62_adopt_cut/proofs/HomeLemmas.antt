@@ -20,6 +20,7 @@ use Rattle.c62_adopt_cut.proofs.StandLemmas.{alone, labelled_here, labelled_stan
 use Rattle.c62_adopt_cut.proofs.StartLemmas.{lowest, labelled_lowest, lowest_early, lowest_rises, stand_begun}
 use Rattle.c62_adopt_cut.proofs.StartLemmas.{stand_lowest}
 use Rattle.c62_adopt_cut.proofs.OpenHomes.{all_low, Have, new_has, opened_has}
+use Rattle.c62_op.specs.declared.set.InstructionSet.{InstructionSet}
 
 -- ---- a line
 
@@ -46,7 +47,7 @@ none_home = record {
 abbrev Homely : List Line → ℕ → List Home → List Name → (ℕ → Type 0) → Drafts → Type 0
 Homely above low homes labels cuts drafts = Have (λ start. label_in start above) low homes labels cuts drafts
 
-module _ (above : List Line) (line : Line) where
+module _ (isa : InstructionSet) (above : List Line) (line : Line) where
   abbrev named_with : Option Name → ℕ → Option Name
   named_with label start = label_at start label (cycles_of above) (label_in start above)
 
@@ -133,7 +134,7 @@ module _ (above : List Line) (line : Line) where
   }
 
   -- a line that has one of the two
-  full_has : (number : ℕ) (drafts : Drafts) → IsWhole line → IsFree above drafts line
+  full_has : (number : ℕ) (drafts : Drafts) → IsWhole isa line → IsFree above drafts line
       → (stand_of above line).start ≤ lowest (line ∷ above)
       → AreHome above number drafts
       → Have (λ start. label_in start (line ∷ above)) (lowest (line ∷ above)) (homes_in (line ∷ above))
@@ -153,24 +154,25 @@ module _ (above : List Line) (line : Line) where
       stand line.says home.numbered
       (stand_cut above line free.bars) begun)
 
-pub line_home : (above : List Line) (number : ℕ) (drafts : Drafts) (line : Line) → IsWhole line
+pub line_home : (isa : InstructionSet) (above : List Line) (number : ℕ) (drafts : Drafts) (line : Line)
+    → IsWhole isa line
     → IsFree above drafts line → AreHome above number drafts
     → AreHome (line ∷ above) (number + 1) (with_line number (stand_of above line) line drafts)
-line_home above number drafts line whole free home = record { numbered = omega (arith, home.numbered); have = go }
+line_home isa above number drafts line whole free home = record { numbered = omega (arith, home.numbered); have = go }
   where
     go : Have (λ start. label_in start (line ∷ above)) (lowest (line ∷ above)) (homes_in (line ∷ above))
         (labels_in (line ∷ above))
         (λ start. IsTrue (is_cut (line ∷ above) start)) (with_line number (stand_of above line) line drafts)
     go = elim (cases_Bool (is_filled line.says)) [
       | inl filled ↦
-          full_has above line number drafts whole free
+          full_has isa above line number drafts whole free
           (let same = stand_lowest above line filled free.bars whole.beside in omega (arith, same)) home
       | inr empty ↦ elim (cases_Bool (is_some line.label)) [
         | inl labelled ↦
-            full_has above line number drafts whole free
+            full_has isa above line number drafts whole free
             (labelled_lowest above line empty labelled (alone line.beside line.label labelled whole.beside)) home
         | inr none ↦
-            plain_has above line drafts number (stand_of above line) line.label
+            plain_has isa above line drafts number (stand_of above line) line.label
             (label_in (stand_of above line).start (line ∷ above)) line.says none empty home.have
       ]
     ]

@@ -18,6 +18,7 @@ use Rattle.c62_adopt_cut.specs.Text.{Cut, and_line, begins_one_more, hindrance, 
 use Rattle.c62_adopt_cut.specs.Text.{judged, read_below, read_cause, text_cut}
 use Rattle.c62_adopt_cut.specs.Text.{unless_hindered}
 use Rattle.c62_adopt_cut.specs.declared.text.TheConstants.{MOST_BYTES}
+use Rattle.c62_op.specs.declared.set.InstructionSet.{InstructionSet}
 
 -- ---- what stands against no line
 
@@ -52,40 +53,43 @@ unhindered above drafts line none =
 -- ---- from line to line
 
 -- the blocks above the first line are such, those above each are so with it, too, and so are those that are read
-pub record IsKept (Holds : List Line → ℕ → Drafts → Type 0) (Says : List Draft → Type 0) : Type 0 where
+pub record IsKept (isa : InstructionSet) (Holds : List Line → ℕ → Drafts → Type 0)
+    (Says : List Draft → Type 0) : Type 0 where
   pub first : Holds [] 1 no_drafts
-  pub next : (above : List Line) (number : ℕ) (drafts : Drafts) (line : Line) → IsWhole line → IsFree above drafts line
+  pub next : (above : List Line) (number : ℕ) (drafts : Drafts) (line : Line) → IsWhole isa line
+      → IsFree above drafts line
       → Holds above number drafts
       → Holds (line ∷ above) (number + 1) (with_line number (stand_of above line) line drafts)
   pub last : (above : List Line) (number : ℕ) (drafts : Drafts) → Holds above number drafts → Says (all_drafts drafts)
 
-module _ (Holds : List Line → ℕ → Drafts → Type 0) (Says : List Draft → Type 0) (kept : IsKept Holds Says) where
+module _ (isa : InstructionSet) (Holds : List Line → ℕ → Drafts → Type 0) (Says : List Draft → Type 0)
+    (kept : IsKept isa Holds Says) where
   module _ (above : List Line) (number : ℕ) (drafts : Drafts) (holds : Holds above number drafts) (read : Line → Cut)
       (behind : (line : Line) → Holds (line ∷ above) (number + 1) (with_line number (stand_of above line) line drafts)
       → Says (read line).drafts) where
-    hindered_kept : (line : Line) → IsWhole line → (found : Option TextCause)
+    hindered_kept : (line : Line) → IsWhole isa line → (found : Option TextCause)
         → (found ≡ None → IsFree above drafts line)
         → Says (and_line above drafts number (unless_hindered found line) read).drafts
     hindered_kept line whole (Some cause) free = kept.last above number drafts holds
     hindered_kept line whole None free = behind line (kept.next above number drafts line whole (free refl) holds)
 
-    said_kept : (said : Result Line LineFault) → ((line : Line) → said ≡ Ok line → IsWhole line)
+    said_kept : (said : Result Line LineFault) → ((line : Line) → said ≡ Ok line → IsWhole isa line)
         → Says (and_line above drafts number (judged above drafts said) read).drafts
     said_kept (Err fault) whole = kept.last above number drafts holds
     said_kept (Ok line) whole = hindered_kept line (whole line refl) (hindrance above drafts line)
         (unhindered above drafts line)
 
   read_kept : (above : List Line) (number : ℕ) (drafts : Drafts) (lines : List (List ℕ)) → Holds above number drafts
-      → Says (read_below above drafts number lines).drafts
+      → Says (read_below isa above drafts number lines).drafts
   unfolding read_below
   read_kept above number drafts [] holds = kept.last above number drafts holds
   read_kept above number drafts (bytes ∷ lines) holds =
       said_kept above number drafts holds
-      (λ line. read_below (line ∷ above) (with_line number (stand_of above line) line drafts) (number + 1) lines)
+      (λ line. read_below isa (line ∷ above) (with_line number (stand_of above line) line drafts) (number + 1) lines)
       (λ line next. read_kept (line ∷ above) (number + 1) (with_line number (stand_of above line) line drafts) lines
-      next) (line_says bytes) (line_whole bytes)
+      next) (line_says isa bytes) (line_whole isa bytes)
 
-  pub text_kept : (text : List ℕ) → Says (text_cut text).drafts
+  pub text_kept : (text : List ℕ) → Says (text_cut isa text).drafts
   unfolding text_cut
   text_kept text = elim (cases_Bool (ltb MOST_BYTES (length text))) [
     | inl long ↦ rw long (kept.last [] 1 no_drafts kept.first)

@@ -26,6 +26,7 @@ use Rattle.c62_adopt_cut.specs.Text.{is_taken}
 use Rattle.c62_adopt_cut.specs.Laws.{AreNamed, BlocksAreNamed, labels_given}
 use Rattle.c62_adopt_cut.proofs.KeptLemmas.{IsFree, text_kept}
 use Rattle.c62_read.proofs.CutLemmas.{all_more}
+use Rattle.c62_op.specs.declared.set.InstructionSet.{InstructionSet}
 
 -- ---- labels
 
@@ -142,9 +143,10 @@ says_named number stand says drafts named =
       begun = labelled.begun;
     }
 
-line_named : (above : List Line) (number : ℕ) (drafts : Drafts) (line : Line) → IsWhole line → IsFree above drafts line
+line_named : (isa : InstructionSet) (above : List Line) (number : ℕ) (drafts : Drafts) (line : Line) → IsWhole isa line
+    → IsFree above drafts line
     → AreNamed (all_drafts drafts) → AreNamed (all_drafts (with_line number (stand_of above line) line drafts))
-line_named above number drafts line whole free named =
+line_named isa above number drafts line whole free named =
     let stand = stand_of above line in
     says_named number stand line.says (with_label line.label stand.cycle drafts)
     (label_named line.label stand.cycle drafts whole.label free.taken named)
@@ -153,9 +155,9 @@ none_named : AreNamed []
 unfolding IsDistinct
 none_named = record { labels = tt; distinct = tt; begun = tt }
 
-pub blocks_are_named : (text : List ℕ) → BlocksAreNamed text
-blocks_are_named = text_kept (λ above number drafts. AreNamed (all_drafts drafts)) AreNamed (record {
+pub blocks_are_named : (isa : InstructionSet) (text : List ℕ) → BlocksAreNamed isa text
+blocks_are_named isa = text_kept isa (λ above number drafts. AreNamed (all_drafts drafts)) AreNamed (record {
   first = none_named;
-  next = line_named;
+  next = line_named isa;
   last = λ above number drafts named. named;
 })

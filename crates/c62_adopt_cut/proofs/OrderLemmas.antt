@@ -21,6 +21,7 @@ use Rattle.c62_adopt_cut.specs.Laws.{BlocksAreInOrder, IsInOrder}
 use Rattle.c62_adopt_cut.proofs.KeptLemmas.{IsFree, text_kept}
 use Rattle.c62_adopt_cut.proofs.StandLemmas.{latest, latest_rises, stand_late, stand_latest, stand_low}
 use Rattle.c62_read.proofs.CutLemmas.{all_more}
+use Rattle.c62_op.specs.declared.set.InstructionSet.{InstructionSet}
 
 -- ---- a block
 
@@ -165,10 +166,11 @@ module _ (number cycle : ℕ) (stand : Stand) (low : stand.start ≤ stand.cycle
       all_to number (number + 1) stand.cycle later _ (omega arith) (filled refl)
       (opened_to parts (Some target) drafts are)
 
-line_to : (above : List Line) (number : ℕ) (drafts : Drafts) (line : Line) → IsWhole line → IsFree above drafts line
+line_to : (isa : InstructionSet) (above : List Line) (number : ℕ) (drafts : Drafts) (line : Line) → IsWhole isa line
+    → IsFree above drafts line
     → AreInOrderTo number (latest above) drafts
     → AreInOrderTo (number + 1) (latest (line ∷ above)) (with_line number (stand_of above line) line drafts)
-line_to above number drafts line whole free are =
+line_to isa above number drafts line whole free are =
     let stand = stand_of above line in
     says_to number (latest above) stand (stand_low above line) (stand_late above line free.bars) (latest (line ∷ above))
     line.says
@@ -176,10 +178,10 @@ line_to above number drafts line whole free are =
     (λ filled. let same = stand_latest above line filled free.bars whole.beside in omega arith)
     (label_to number (latest above) line.label stand.cycle drafts are)
 
-pub blocks_are_in_order : (text : List ℕ) → BlocksAreInOrder text
-blocks_are_in_order = text_kept (λ above number drafts. AreInOrderTo number (latest above) drafts)
+pub blocks_are_in_order : (isa : InstructionSet) (text : List ℕ) → BlocksAreInOrder isa text
+blocks_are_in_order isa = text_kept isa (λ above number drafts. AreInOrderTo number (latest above) drafts)
     (AllByRecursion IsInOrder) (record {
       first = record { done = tt; current = tt };
-      next = line_to;
+      next = line_to isa;
       last = λ above number drafts are. all_order number (latest above) drafts are;
     })

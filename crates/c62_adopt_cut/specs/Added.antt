@@ -12,6 +12,7 @@ use Rattle.c62_adopt_cut.specs.Clock.{IsClockOf}
 use Rattle.c62_adopt_cut.specs.Blocks.{with_line}
 use Rattle.c62_adopt_cut.specs.Drafted.{drafts_of}
 use Rattle.c62_adopt_cut.specs.Text.{hindrance, line_judged}
+use Rattle.c62_op.specs.declared.set.InstructionSet.{InstructionSet}
 
 -- nothing stands against the line, and the reader has what it says, too
 pub record AddsWritten (above : List Line) (number : ℕ) (line : Line) (old new : Reader) : Type 0 where
@@ -28,19 +29,19 @@ abbrev pub TellsOfWritten : List Line → ℕ → Line → Reader → Reader →
 TellsOfWritten above number line old new fault = MatchOption fault (AddsWritten above number line old new) (RefusesWritten above line old new)
 
 -- the line says something, and the reader has that, too
-pub record AddsLine (above : List Line) (number : ℕ) (bytes : List ℕ) (old new : Reader) : Type 0 where
+pub record AddsLine (isa : InstructionSet) (above : List Line) (number : ℕ) (bytes : List ℕ) (old new : Reader) : Type 0 where
   pub line : Line
-  pub judged : line_judged above (drafts_of old.drafts) bytes ≡ Ok line
+  pub judged : line_judged isa above (drafts_of old.drafts) bytes ≡ Ok line
   pub clock : IsClockOf new.clock (line ∷ above)
   pub drafts : drafts_of new.drafts ≡ with_line number (stand_of above line) line (drafts_of old.drafts)
 
 -- the line has this fault, and the reader is as it was
-pub record RefusesLine (above : List Line) (bytes : List ℕ) (old new : Reader) (cause : TextCause) : Type 0 where
-  pub judged : line_judged above (drafts_of old.drafts) bytes ≡ Err cause
+pub record RefusesLine (isa : InstructionSet) (above : List Line) (bytes : List ℕ) (old new : Reader) (cause : TextCause) : Type 0 where
+  pub judged : line_judged isa above (drafts_of old.drafts) bytes ≡ Err cause
   pub same : new ≡ old
 
-abbrev pub TellsOfLine : List Line → ℕ → List ℕ → Reader → Reader → Option TextCause → Type 0
-TellsOfLine above number bytes old new fault = MatchOption fault (AddsLine above number bytes old new) (RefusesLine above bytes old new)
+abbrev pub TellsOfLine : InstructionSet → List Line → ℕ → List ℕ → Reader → Reader → Option TextCause → Type 0
+TellsOfLine isa above number bytes old new fault = MatchOption fault (AddsLine isa above number bytes old new) (RefusesLine isa above bytes old new)
 
 -- memory that ran out is no fault of a line
 abbrev pub TellsCause : LineFault → Result TextCause AllocError → Type 0

@@ -13,18 +13,19 @@ use Rattle.c62_adopt_cut.specs.Cut.{cycles_of, cuts_of, stand_of}
 use Rattle.c62_adopt_cut.specs.Blocks.{Issue, Draft, issue_at}
 use Rattle.c62_adopt_cut.specs.Text.{Cut, Refusal, text_cut}
 use Rattle.c62_adopt_cut.specs.Laws.{labels_given}
+use Rattle.c62_op.specs.declared.set.InstructionSet.{InstructionSet}
 
 -- ---- the lines of a text
 
 -- line by line these are what the lines of a text say by themselves, the last first
-abbrev pub AreSaid : List (List ℕ) → List Line → Type 0
-AreSaid texts [] = Unit {0}
-AreSaid texts (line ∷ above) = (option_map line_says (slice_get texts (length above)) ≡ Some (Ok line)) × AreSaid texts above
+abbrev pub AreSaid : InstructionSet → List (List ℕ) → List Line → Type 0
+AreSaid isa texts [] = Unit {0}
+AreSaid isa texts (line ∷ above) = (option_map (line_says isa) (slice_get texts (length above)) ≡ Some (Ok line)) × AreSaid isa texts above
 
 -- A text is read as far as these lines: it has no more, or the next one is its first with a fault. One that is too long has its
 -- fault in line 0.
-pub record IsReadTo (text : List ℕ) (lines : List Line) (cut : Cut) : Type 0 where
-  pub said : AreSaid (lines_of text) lines
+pub record IsReadTo (isa : InstructionSet) (text : List ℕ) (lines : List Line) (cut : Cut) : Type 0 where
+  pub said : AreSaid isa (lines_of text) lines
   pub cycles : cut.cycles ≡ cycles_of lines
   pub whole : cut.fault ≡ None → length lines ≡ length (lines_of text)
   pub faulty : (fault : Refusal) → cut.fault ≡ Some fault → (fault.0 ≡ length lines + 1) ⊎ (fault.0 ≡ 0)
@@ -94,7 +95,7 @@ pub record AreOfLines (lines : List Line) (drafts : List Draft) : Type 0 where
   pub early : AllByRecursion (λ start. start ≤ cycles_of lines) (starts_of drafts)
 
 -- so it is of what is read of a text
-pub record BlocksAreOfLines (text : List ℕ) : Type 0 where
+pub record BlocksAreOfLines (isa : InstructionSet) (text : List ℕ) : Type 0 where
   pub lines : List Line
-  pub read : IsReadTo text lines (text_cut text)
-  pub blocks : AreOfLines lines (text_cut text).drafts
+  pub read : IsReadTo isa text lines (text_cut isa text)
+  pub blocks : AreOfLines lines (text_cut isa text).drafts

@@ -4,6 +4,7 @@ use Rattle.std.specs.List.{AllByRecursion, IsDistinct, flat_map, list_any}
 use Rattle.std.specs.List.Sorted.{IsNonDecreasingBy}
 use Rattle.std.specs.Option.{option_to_list}
 use Rattle.std.specs.Str.{bytes_eq}
+use Rattle.c62_op.specs.Units.{is_taken_in}
 use Rattle.c62_token.specs.Number.{is_label}
 use Rattle.c62_read.specs.Program.{Name}
 use Rattle.c62_read.specs.declared.limits.TheConstants.{MOST_BLOCKS, MOST_INSTRUCTIONS}
@@ -11,26 +12,28 @@ use Rattle.c62_packet.specs.declared.limits.TheConstants.{MOST_CYCLES}
 use Rattle.c62_adopt_cut.specs.Blocks.{Issue, Draft}
 use Rattle.c62_adopt_cut.specs.Text.{Cut, end_of, text_cut}
 use Rattle.c62_adopt_cut.specs.Flight.{branches, is_lost, lacking, next_start, next_drained, over_in, first_in_flight, cycles_lacking}
+use Rattle.c62_op.specs.declared.set.InstructionSet.{InstructionSet}
 
 -- ---- limits
 
--- the instruction has its unit written, and is not in flight behind the last cycle that its block may have
-pub record IsPlaced (start : ℕ) (issue : Issue) : Type 0 where
+-- the instruction is one of the set, has its unit written, and is not in flight behind the last cycle that its block may have
+pub record IsPlaced (isa : InstructionSet) (start : ℕ) (issue : Issue) : Type 0 where
   pub unit : is_some issue.parts.unit ≡ true
+  pub of_set : IsTrue (is_taken_in isa issue.parts.op issue.parts.operands)
   pub in_time : end_of issue.parts (start + issue.cycle) ≤ start + MOST_CYCLES
 
 -- few instructions, all of them placed
-pub record IsFine (draft : Draft) : Type 0 where
+pub record IsFine (isa : InstructionSet) (draft : Draft) : Type 0 where
   pub few : length draft.issues ≤ MOST_INSTRUCTIONS
-  pub placed : AllByRecursion (IsPlaced draft.start) draft.issues
+  pub placed : AllByRecursion (IsPlaced isa draft.start) draft.issues
 
 -- few blocks, all of them fine
-pub record AreFine (drafts : List Draft) : Type 0 where
+pub record AreFine (isa : InstructionSet) (drafts : List Draft) : Type 0 where
   pub few : length drafts ≤ MOST_BLOCKS
-  pub fine : AllByRecursion IsFine drafts
+  pub fine : AllByRecursion (IsFine isa) drafts
 
-abbrev pub BlocksAreFine : List ℕ → Type 0
-BlocksAreFine text = AreFine (text_cut text).drafts
+abbrev pub BlocksAreFine : InstructionSet → List ℕ → Type 0
+BlocksAreFine isa text = AreFine isa (text_cut isa text).drafts
 
 -- ---- names
 
@@ -44,8 +47,8 @@ pub record AreNamed (drafts : List Draft) : Type 0 where
   pub distinct : IsDistinct bytes_eq (labels_given drafts)
   pub begun : AllByRecursion (λ draft. draft.label ≡ None → 0 < length draft.issues) drafts
 
-abbrev pub BlocksAreNamed : List ℕ → Type 0
-BlocksAreNamed text = AreNamed (text_cut text).drafts
+abbrev pub BlocksAreNamed : InstructionSet → List ℕ → Type 0
+BlocksAreNamed isa text = AreNamed (text_cut isa text).drafts
 
 -- ---- order
 
@@ -54,8 +57,8 @@ pub record IsInOrder (draft : Draft) : Type 0 where
   pub lines : IsNonDecreasingBy (λ issue. issue.line) draft.issues
   pub cycles : IsNonDecreasingBy (λ issue. issue.cycle) draft.issues
 
-abbrev pub BlocksAreInOrder : List ℕ → Type 0
-BlocksAreInOrder text = AllByRecursion IsInOrder (text_cut text).drafts
+abbrev pub BlocksAreInOrder : InstructionSet → List ℕ → Type 0
+BlocksAreInOrder isa text = AllByRecursion IsInOrder (text_cut isa text).drafts
 
 -- ---- nothing is in flight where a block is over
 

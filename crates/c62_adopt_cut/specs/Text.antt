@@ -21,6 +21,7 @@ use Rattle.c62_adopt_cut.specs.declared.fault.TextCause.TheVariants.{Line as OfL
 use Rattle.c62_adopt_cut.specs.declared.text.TheConstants.{MOST_BYTES}
 use Rattle.c62_adopt_cut.specs.Cut.{cycles_of, last_packet, stand_of}
 use Rattle.c62_adopt_cut.specs.Blocks.{Draft, Drafts, all_drafts, begins_at, no_drafts, with_line}
+use Rattle.c62_op.specs.declared.set.InstructionSet.{InstructionSet}
 
 -- ---- a line below others
 
@@ -78,8 +79,8 @@ judged above drafts (Ok line) = unless_hindered (hindrance above drafts line) li
 judged above drafts (Err fault) = Err (OfLine fault)
 
 -- what a line says below these, or its fault
-abbrev pub line_judged : List Line → Drafts → List ℕ → Result Line TextCause
-line_judged above drafts bytes = judged above drafts (line_says bytes)
+abbrev pub line_judged : InstructionSet → List Line → Drafts → List ℕ → Result Line TextCause
+line_judged isa above drafts bytes = judged above drafts (line_says isa bytes)
 
 -- ---- a text
 
@@ -101,11 +102,11 @@ and_line above drafts number (Ok line) next = next line
 and_line above drafts number (Err cause) next = cut_at above drafts (Some (number, cause))
 
 -- these lines below those, the first of them with this number
-unfoldable pub read_below : List Line → Drafts → ℕ → List (List ℕ) → Cut
-read_below above drafts number [] = cut_at above drafts None
-read_below above drafts number (bytes ∷ lines) =
-    and_line above drafts number (line_judged above drafts bytes)
-    (λ line. read_below (line ∷ above) (with_line number (stand_of above line) line drafts) (number + 1) lines)
+unfoldable pub read_below : InstructionSet → List Line → Drafts → ℕ → List (List ℕ) → Cut
+read_below isa above drafts number [] = cut_at above drafts None
+read_below isa above drafts number (bytes ∷ lines) =
+    and_line above drafts number (line_judged isa above drafts bytes)
+    (λ line. read_below isa (line ∷ above) (with_line number (stand_of above line) line drafts) (number + 1) lines)
 
 abbrev pub most_bytes : ℕ
 most_bytes = MOST_BYTES
@@ -114,5 +115,5 @@ abbrev pub too_long : Cut
 too_long = cut_at [] no_drafts (Some (0, read_cause TextTooLong))
 
 -- what is read of a text; one that is too long is not looked at
-unfoldable pub text_cut : List ℕ → Cut
-text_cut text = if nat_lt most_bytes (length text) then too_long else read_below [] no_drafts 1 (lines_of text)
+unfoldable pub text_cut : InstructionSet → List ℕ → Cut
+text_cut isa text = if nat_lt most_bytes (length text) then too_long else read_below isa [] no_drafts 1 (lines_of text)

@@ -1,5 +1,6 @@
 //! Laws of what is read of texts of packets.
 
+ghost use Rattle.c62_op.specs.declared.set.InstructionSet.{InstructionSet};
 ghost use Rattle.std.specs.Prelude.{ℕ, Bool, List};
 ghost use Rattle.c62_adopt_cut.specs.Text.{Cut};
 ghost use Rattle.c62_adopt_cut.specs.Blocks.{Draft};
@@ -9,17 +10,17 @@ ghost use Rattle.c62_adopt_cut.specs.Laws.{BlocksAreFine, BlocksAreNamed, Blocks
 /// Of every text at most 64 blocks are read, each of at most 256 instructions, which have their units written, and none in
 /// flight behind the 2,048th cycle of its block.
 pub fn blocks_are_fine()
-    ensures { (text : List ℕ) → BlocksAreFine text }
+    ensures { (isa : InstructionSet) (text : List ℕ) → BlocksAreFine isa text }
 {}
 
 /// The labels of the blocks that are read are labels, and no two are the same; each block without one has an instruction.
 pub fn blocks_are_named()
-    ensures { (text : List ℕ) → BlocksAreNamed text }
+    ensures { (isa : InstructionSet) (text : List ℕ) → BlocksAreNamed isa text }
 {}
 
 /// The instructions of each block stand in the order of their lines and of their cycles.
 pub fn blocks_are_in_order()
-    ensures { (text : List ℕ) → BlocksAreInOrder text }
+    ensures { (isa : InstructionSet) (text : List ℕ) → BlocksAreInOrder isa text }
 {}
 
 /// Where no instruction has a fault because of the lines below it, nothing is in flight where a block is over, no block has more
@@ -44,5 +45,5 @@ pub fn lacking_cycles_are_just_enough()
 /// behind its cycle, under the label that stands last at or above it, where that stands at this cut. Each label is a block's,
 /// and blocks begin where the text is cut, or at its beginning.
 pub fn blocks_are_of_lines()
-    ensures { (text : List ℕ) → BlocksAreOfLines text }
+    ensures { (isa : InstructionSet) (text : List ℕ) → BlocksAreOfLines isa text }
 {}

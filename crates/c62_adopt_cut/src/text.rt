@@ -18,6 +18,7 @@ use crate::fault::{TextCause, TextFault};
 use c62_adopt_line::{LineFault, Written, read_line};
 use c62_insn::Insn;
 use c62_line::{Cause, Label, What};
+use c62_op::InstructionSet;
 use c62_packet::MOST_CYCLES;
 use c62_read::{MOST_BLOCKS, MOST_INSTRUCTIONS, first_line, label_is};
 use std::alloc::{AllocError, Global};
@@ -228,6 +229,7 @@ impl Reader {
     /// Adds a line of this number. One with a fault is not added, and the fault is answered.
     fn add_line(
         &mut self,
+        isa: InstructionSet,
         alloc: Global,
         text: &mut Vec<u8>,
         number: u32,
@@ -236,9 +238,9 @@ impl Reader {
         requires small { self.old.clock.now < 2 ^ 31 }
         requires clock { HasClock self.old.clock }
         ensures { (above : List Line) → IsClockOf self.old.clock above
-            → IfOk result (TellsOfLine above number bytes.now self.old self.new) }
+            → IfOk result (TellsOfLine isa above number bytes.now self.old self.new) }
     {
-        match read_line(text, bytes) {
+        match read_line(isa, text, bytes) {
             Ok(line) => self.add_written(alloc, number, line),
             Err(fault) => cause_of(fault).map(Some),
         }
@@ -258,16 +260,16 @@ impl Reader {
 }
 
 /// What is read of a text that is not too long.
-fn read_lines(alloc: Global, text: &[u8]) -> Result<Cut, AllocError>
+fn read_lines(isa: InstructionSet, alloc: Global, text: &[u8]) -> Result<Cut, AllocError>
     requires { length text.now ≤ MOST_BYTES }
-    ensures { IfOk result (λ cut. cut_of cut ≡ read_below [] no_drafts 1 (lines_of text.now)) }
+    ensures { IfOk result (λ cut. cut_of cut ≡ read_below isa [] no_drafts 1 (lines_of text.now)) }
 {
     let mut reader = Reader::new(alloc);
     let mut plain = Vec::new(alloc);
     let mut rest = text;
     let mut number = 1;
     while let Some((line, after)) = first_line(rest) {
-        if let Some(cause) = reader.add_line(alloc, &mut plain, number, line)? {
+        if let Some(cause) = reader.add_line(isa, alloc, &mut plain, number, line)? {
             return reader.cut(Some(TextFault::at(number, cause)));
         }
         number += 1;
@@ -294,12 +296,12 @@ fn too_long(alloc: Global) -> Result<Cut, AllocError>
 ///
 /// Where memory runs out.
 #[tactic(auto, unfolding(crate::specs::Text::text_cut))]
-pub fn read_cut(alloc: Global, text: &[u8]) -> Result<Cut, AllocError>
-    ensures { IfOk result (λ cut. cut_of cut ≡ text_cut text.now) }
+pub fn read_cut(isa: InstructionSet, alloc: Global, text: &[u8]) -> Result<Cut, AllocError>
+    ensures { IfOk result (λ cut. cut_of cut ≡ text_cut isa text.now) }
 {
     if text.len() > MOST_BYTES {
         too_long(alloc)
     } else {
-        read_lines(alloc, text)
+        read_lines(isa, alloc, text)
     }
 }

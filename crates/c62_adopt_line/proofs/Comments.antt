@@ -20,6 +20,7 @@ use Rattle.c62_adopt_line.specs.Line.{words_say}
 use Rattle.c62_adopt_line.specs.Plain.{undotted}
 use Rattle.c62_adopt_line.proofs.Labels.{no_colon_no_label}
 use Rattle.c62_line.specs.declared.limits.TheConstants.{MOST_LINE}
+use Rattle.c62_op.specs.declared.set.InstructionSet.{InstructionSet}
 
 -- ---- a statement
 
@@ -44,25 +45,26 @@ code_of (b ∷ line) rest =
     rw (take_while-cons (λ c. not (eqb c 59)) b (line ++ 59 ∷ rest), take_while-cons (λ c. not (eqb c 59)) b line)
     (ap (λ (bytes : List ℕ). cond (not (eqb b 59)) (b ∷ bytes) []) (code_of line rest))
 
-instruction_comment : (line rest : List ℕ) → instruction_says (line ++ 59 ∷ rest) ≡ instruction_says line
+instruction_comment : (isa : InstructionSet) (line rest : List ℕ)
+    → instruction_says isa (line ++ 59 ∷ rest) ≡ instruction_says isa line
 unfolding instruction_says
-instruction_comment line rest =
+instruction_comment isa line rest =
     let colon : has_colon (line ++ 59 ∷ rest) ≡ has_colon line = ap (λ (code : List ℕ). list_any (λ b. eqb b 58) code)
     (code_of line rest) in
     rw (colon, dotted_tokens false line rest) refl
 
-words_comment : (beside : Bool) (line rest : List ℕ) (words : List Word)
-    → words_say beside (line ++ 59 ∷ rest) words ≡ words_say beside line words
-words_comment beside line rest [] = refl
-words_comment beside line rest (word ∷ words) = ap
-    (λ says. cond (begins is_dot word) (directive_says beside (word ∷ words)) says) (instruction_comment line rest)
+words_comment : (isa : InstructionSet) (beside : Bool) (line rest : List ℕ) (words : List Word)
+    → words_say isa beside (line ++ 59 ∷ rest) words ≡ words_say isa beside line words
+words_comment isa beside line rest [] = refl
+words_comment isa beside line rest (word ∷ words) = ap
+    (λ says. cond (begins is_dot word) (directive_says beside (word ∷ words)) says) (instruction_comment isa line rest)
 
-statement_comment : (beside : Bool) (line rest : List ℕ)
-    → statement_says beside (line ++ 59 ∷ rest) ≡ statement_says beside line
+statement_comment : (isa : InstructionSet) (beside : Bool) (line rest : List ℕ)
+    → statement_says isa beside (line ++ 59 ∷ rest) ≡ statement_says isa beside line
 unfolding statement_says
-statement_comment beside line rest =
-    ap (words_say beside (line ++ 59 ∷ rest)) (tokens_before_comment line rest)
-    ∙ words_comment beside line rest (tokens line)
+statement_comment isa beside line rest =
+    ap (words_say isa beside (line ++ 59 ∷ rest)) (tokens_before_comment line rest)
+    ∙ words_comment isa beside line rest (tokens line)
 
 -- ---- the front of a line
 
@@ -107,18 +109,19 @@ has_colon_by : (line : List ℕ) (label : Word) (b : Bool) → list_any (λ c. e
 has_colon_by line label true is some = refl
 has_colon_by line label false is some = let none = no_colon_no_label line is in absurd cc
 
-label_comment : (line rest : List ℕ) (field : Option Word) → label_field (undotted true line) ≡ field
-    → with_label (line ++ 59 ∷ rest) field ≡ with_label line field
-label_comment line rest None is = rw (statement_comment false line rest) refl
-label_comment line rest (Some label) is =
+label_comment : (isa : InstructionSet) (line rest : List ℕ) (field : Option Word)
+    → label_field (undotted true line) ≡ field
+    → with_label isa (line ++ 59 ∷ rest) field ≡ with_label isa line field
+label_comment isa line rest None is = rw (statement_comment isa false line rest) refl
+label_comment isa line rest (Some label) is =
     let some = has_colon_by line label (list_any (λ c. eqb c 58) line) refl is in
-    rw (colon_comment line rest some, statement_comment false (behind_colon line) rest) refl
+    rw (colon_comment line rest some, statement_comment isa false (behind_colon line) rest) refl
 
-front_comment : (line rest : List ℕ) (bars : Option (List ℕ))
-    → with_bars (line ++ 59 ∷ rest) (option_map (λ bytes. bytes ++ 59 ∷ rest) bars) ≡ with_bars line bars
-front_comment line rest None = ap (with_label (line ++ 59 ∷ rest)) (field_comment line rest)
-    ∙ label_comment line rest (label_field (undotted true line)) refl
-front_comment line rest (Some behind) = rw (statement_comment true behind rest) refl
+front_comment : (isa : InstructionSet) (line rest : List ℕ) (bars : Option (List ℕ))
+    → with_bars isa (line ++ 59 ∷ rest) (option_map (λ bytes. bytes ++ 59 ∷ rest) bars) ≡ with_bars isa line bars
+front_comment isa line rest None = ap (with_label isa (line ++ 59 ∷ rest)) (field_comment line rest)
+    ∙ label_comment isa line rest (label_field (undotted true line)) refl
+front_comment isa line rest (Some behind) = rw (statement_comment isa true behind rest) refl
 
 -- ---- a line
 
@@ -126,13 +129,13 @@ star_comment : (line rest : List ℕ) → begins is_star (line ++ 59 ∷ rest) �
 star_comment [] rest = refl
 star_comment (b ∷ line) rest = refl
 
-pub comment_nothing : (line rest : List ℕ) → CommentSaysNothing line rest
+pub comment_nothing : (isa : InstructionSet) (line rest : List ℕ) → CommentSaysNothing isa line rest
 unfolding line_says
-comment_nothing line rest readable =
+comment_nothing isa line rest readable =
     let allowed : list_all is_allowed line ≡ true = grind
     (arith, nat_tests, list_all-append is_allowed line (59 ∷ rest)) in
     let short : nat_lt MOST_LINE (length line) ≡ false = grind (arith, nat_tests, length-append line (59 ∷ rest)) in
     let whole : nat_lt MOST_LINE (length (line ++ 59 ∷ rest)) ≡ false = grind (arith, nat_tests) in
-    let says = ap (with_bars (line ++ 59 ∷ rest)) (bars_comment line rest)
-    ∙ front_comment line rest (behind_bars line) in
+    let says = ap (with_bars isa (line ++ 59 ∷ rest)) (bars_comment line rest)
+    ∙ front_comment isa line rest (behind_bars line) in
     rw (readable.0, whole, allowed, short, star_comment line rest, says) refl

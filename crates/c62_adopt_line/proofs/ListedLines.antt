@@ -13,7 +13,8 @@ use Rattle.c62_op.specs.declared.register.Letter.TheVariants.{L}
 use Rattle.c62_op.specs.declared.register.Unit.{Unit as FunctionalUnit}
 use Rattle.c62_op.specs.declared.operands.Operands.{Operands}
 use Rattle.c62_op.specs.declared.operands.Operands.TheVariants.{Three, Block}
-use Rattle.c62_op.specs.Takes.{takes}
+use Rattle.c62_op.specs.Takes.{takes, takes_in}
+use Rattle.c62_op.proofs.TakenTests.{taken_whole}
 use Rattle.c62_insn.specs.declared.insn.Insn.{Insn}
 use Rattle.c62_insn.specs.Insn.{op_of, operands_of}
 use Rattle.c62_insn.specs.Spelling.{unit_letter, side_digit, path_spelling, operands_spelling, spelling}
@@ -37,6 +38,7 @@ use Rattle.c62_adopt_line.proofs.PlainOperands.{is_plain, ArePlain, are_plain, j
 use Rattle.c62_adopt_line.proofs.PlainInsns.{front_of, back_of, spelled_parts, front_plain, back_plain, no_dot}
 use Rattle.c62_adopt_line.proofs.PlainInsns.{one_between, lacks, lacks_between}
 use Rattle.c62_adopt_line.proofs.FrontWords.{return_behind, dotted_no_return, insn_front}
+use Rattle.c62_op.specs.declared.set.InstructionSet.{InstructionSet}
 
 -- ---- instructions
 
@@ -104,32 +106,35 @@ says_something name parts _ is = absurd cc
 hundred : List ℕ
 hundred = replicate 100 32
 
-spelled_short : (name : ℕ → Word) (insn : Insn) (unit : FunctionalUnit)
-    → takes (op_of insn) (operands_of insn) unit ≡ true
+spelled_short : (isa : InstructionSet) (name : ℕ → Word) (insn : Insn) (unit : FunctionalUnit)
+    → takes_in isa (op_of insn) (operands_of insn) unit ≡ true
     → NamesTarget name (operands_of insn) → length (spelling name insn unit) ≤ 155
 unfolding hundred
-spelled_short name insn unit taking names =
+spelled_short isa name insn unit taking names =
     let line = hundred ++ spelling name insn unit in
-    let plain = spelled_plain hundred name insn unit refl taking names in
-    let read = spelled_back name insn unit hundred taking names refl (omega arith) in
-    let short = (line_steps line (says_on name insn unit) plain.no_colon read).is_short in
+    let whole = taken_whole isa (op_of insn) (operands_of insn) unit taking in
+    let plain = spelled_plain hundred name insn unit refl whole names in
+    let read = spelled_back isa name insn unit hundred taking names refl (omega arith) in
+    let short = (line_steps isa line (says_on name insn unit) plain.no_colon read).is_short in
     let few : length line ≤ MOST_LINE = grind (arith, nat_tests) in
     omega (arith, length-append hundred (spelling name insn unit))
 
-pub instruction_reads : (name : ℕ → Word) (insn : Insn) (unit : FunctionalUnit) → InstructionReads name insn unit
-instruction_reads name insn unit taking names =
+pub instruction_reads : (isa : InstructionSet) (name : ℕ → Word) (insn : Insn) (unit : FunctionalUnit)
+    → InstructionReads isa name insn unit
+instruction_reads isa name insn unit taking names =
     let says = says_on name insn unit in
     let has_unit = says_unit name (parts_on insn unit) (operands_of insn) refl in
     let some = says_something name (parts_on insn unit) (operands_of insn) in
-    let short = spelled_short name insn unit taking names in
+    let short = spelled_short isa name insn unit taking names in
     let first = codes "   " ++ spelling name insn unit in
     let other = codes " " ++ spelling name insn unit in
-    let first_plain = spelled_plain (codes "   ") name insn unit refl taking names in
-    let other_plain = spelled_plain (codes " ") name insn unit refl taking names in
-    let first_read = spelled_back name insn unit (codes "   ") taking names refl (omega arith) in
-    let other_read = spelled_back name insn unit (codes " ") taking names refl (omega arith) in (
-      (reads_as_serial first first_plain).alone says first_read has_unit,
-      (reads_as_serial other other_plain).beside says other_read has_unit some (omega arith),
+    let whole = taken_whole isa (op_of insn) (operands_of insn) unit taking in
+    let first_plain = spelled_plain (codes "   ") name insn unit refl whole names in
+    let other_plain = spelled_plain (codes " ") name insn unit refl whole names in
+    let first_read = spelled_back isa name insn unit (codes "   ") taking names refl (omega arith) in
+    let other_read = spelled_back isa name insn unit (codes " ") taking names refl (omega arith) in (
+      (reads_as_serial isa first first_plain).alone says first_read has_unit,
+      (reads_as_serial isa other other_plain).beside says other_read has_unit some (omega arith),
     )
 
 -- ---- pauses
@@ -156,11 +161,11 @@ unfolding digits
 pause_plain n small = agree_below_at (λ (k : ℕ). is_plain_line (codes "   NOP " ++ decimal k)) (λ (k : ℕ). true) 10 n
     refl small
 
-pub pause_reads : (n : ℕ) → PauseReads n
-pause_reads n some few =
+pub pause_reads : (isa : InstructionSet) (n : ℕ) → PauseReads isa n
+pause_reads isa n some few =
     let line = codes "   NOP " ++ decimal n in
     let plain = plain_line line (pause_plain n (omega arith)) in
-    (reads_as_serial line plain).alone (Pause n) (pause_back n (codes "   ") some few refl (omega arith)) tt
+    (reads_as_serial isa line plain).alone (Pause n) (pause_back isa n (codes "   ") some few refl (omega arith)) tt
 
 -- ---- labels
 
@@ -171,23 +176,24 @@ record HasHead (allowed long star bars : Bool) : Type 0 where
   no_comment : star ≡ false
   no_bar : bars ≡ false
 
-head_by : (allowed long star bars : Bool) (rest : Result (Option Word × List Word) Cause) (label : Word)
-    → with_head (cond (not allowed) (Err NotAscii)
+head_by : (isa : InstructionSet) (allowed long star bars : Bool) (rest : Result (Option Word × List Word) Cause)
+    (label : Word)
+    → with_head isa (cond (not allowed) (Err NotAscii)
     (cond long (Err LineTooLong) (cond star (Ok (None, [])) (cond bars (Err ParallelBar) rest))))
     ≡ Ok (Some label, Nothing) → HasHead allowed long star bars
 unfolding rest_says
-head_by false long star bars rest label is = absurd cc
-head_by true true star bars rest label is = absurd cc
-head_by true false true bars rest label is = absurd (grind arith)
-head_by true false false true rest label is = absurd cc
-head_by true false false false rest label is = record
+head_by isa false long star bars rest label is = absurd cc
+head_by isa true true star bars rest label is = absurd cc
+head_by isa true false true bars rest label is = absurd (grind arith)
+head_by isa true false false true rest label is = absurd cc
+head_by isa true false false false rest label is = record
     { all_allowed = refl; is_short = refl; no_comment = refl; no_bar = refl }
 
-label_head : (line : List ℕ) (label : Word) → line_of line ≡ Ok (Some label, Nothing)
+label_head : (isa : InstructionSet) (line : List ℕ) (label : Word) → line_of isa line ≡ Ok (Some label, Nothing)
     → HasHead (list_all is_allowed line) (ltb MOST_LINE (length line)) (begins is_star line) (is_bars (tokens line))
 unfolding line_of head_of
-label_head line label is =
-    head_by (list_all is_allowed line) (ltb MOST_LINE (length line)) (begins is_star line) (is_bars (tokens line))
+label_head isa line label is =
+    head_by isa (list_all is_allowed line) (ltb MOST_LINE (length line)) (begins is_star line) (is_bars (tokens line))
     (without_colon (label_front (tokens line))) label is
 
 nothing_behind : (text : List ℕ) → list_any (λ b. eqb b 58) text ≡ false → behind_colon (text ++ codes ":") ≡ []
@@ -195,16 +201,16 @@ nothing_behind [] none = refl
 nothing_behind (b ∷ text) none =
     let other : eqb b 58 ≡ false = grind (arith, nat_tests) in rw other (nothing_behind text (grind (arith, nat_tests)))
 
-nothing_said : statement_says false [] ≡ Ok Nothing
+nothing_said : (isa : InstructionSet) → statement_says isa false [] ≡ Ok Nothing
 unfolding statement_says
-nothing_said = refl
+nothing_said isa = refl
 
-pub label_reads : (label : Word) → LabelReads label
+pub label_reads : (isa : InstructionSet) (label : Word) → LabelReads isa label
 unfolding line_says
-label_reads label is =
+label_reads isa label is =
     let line = label ++ codes ":" in
-    let back = label_back label is in
-    let head = label_head line label back.0 in
+    let back = label_back isa label is in
+    let head = label_head isa line label back.0 in
     let plain = word_plain label (label_parts label is).1 in
     let dots : undotted true line ≡ line =
     undotted_none line (list_any-append (λ b. eqb b 46) label (codes ":") ∙ rw (no_dot label plain.all) refl) in
@@ -216,9 +222,9 @@ label_reads label is =
       dots,
       back.1,
       nothing_behind label (lacks 58 refl label plain.all),
-      nothing_said,
+      nothing_said isa,
     ) refl
 
-pub empty_reads : EmptyReads
+pub empty_reads : (isa : InstructionSet) → EmptyReads isa
 unfolding line_says statement_says label_field label_front
-empty_reads = refl
+empty_reads isa = refl

@@ -23,6 +23,7 @@ use Rattle.c62_adopt_line.specs.Line.{statement_says, with_unit, words_say}
 use Rattle.c62_adopt_line.specs.Laws.{HasUnit, IsPlain, ReadsAsSerial, has_one_dot, has_return}
 use Rattle.c62_adopt_line.proofs.Labels.{no_colon_no_label}
 use Rattle.c62_line.specs.declared.limits.TheConstants.{MOST_LINE}
+use Rattle.c62_op.specs.declared.set.InstructionSet.{InstructionSet}
 
 -- ---- dots
 
@@ -100,41 +101,44 @@ head_is : (line : List ℕ) → list_any (λ b. eqb b 58) line ≡ false
 head_is line none = let colons = no_colon_at_all line none in rw (no_label (tokens line) colons, colons) refl
 
 -- what a line by itself says in these cases, of which the last is what stands behind its head
-pub record HasSteps (allowed long star bars : Bool) (line : List ℕ) (says : Says) : Type 0 where
+pub record HasSteps (isa : InstructionSet) (allowed long star bars : Bool) (line : List ℕ) (says : Says) : Type 0 where
   pub all_allowed : allowed ≡ true
   pub is_short : long ≡ false
-  pub rest : star ≡ false → (bars ≡ false) × (rest_says (tokens line) ≡ Ok says)
+  pub rest : star ≡ false → (bars ≡ false) × (rest_says isa (tokens line) ≡ Ok says)
   pub comment : star ≡ true → says ≡ Nothing
 
 with_rest_is : (read : Result Says Cause) (says : Says) → with_rest None read ≡ Ok (None, says) → read ≡ Ok says
 with_rest_is (Ok other) says is = grind arith
 with_rest_is (Err cause) says is = absurd cc
 
-steps_of : (allowed long star bars : Bool) (line : List ℕ) (says : Says)
-    → with_head (cond (not allowed) (Err NotAscii)
+steps_of : (isa : InstructionSet) (allowed long star bars : Bool) (line : List ℕ) (says : Says)
+    → with_head isa (cond (not allowed) (Err NotAscii)
     (cond long (Err LineTooLong) (cond star (Ok (None, [])) (cond bars (Err ParallelBar)
-    (Ok (None, tokens line)))))) ≡ Ok (None, says) → HasSteps allowed long star bars line says
+    (Ok (None, tokens line)))))) ≡ Ok (None, says) → HasSteps isa allowed long star bars line says
 unfolding rest_says
-steps_of false long star bars line says is = absurd cc
-steps_of true true star bars line says is = absurd cc
-steps_of true false true bars line says is =
+steps_of isa false long star bars line says is = absurd cc
+steps_of isa true true star bars line says is = absurd cc
+steps_of isa true false true bars line says is =
     record { all_allowed = refl; is_short = refl; rest = λ other. absurd cc; comment = λ here. grind arith }
-steps_of true false false true line says is = absurd cc
-steps_of true false false false line says is =
+steps_of isa true false false true line says is = absurd cc
+steps_of isa true false false false line says is =
     record {
       all_allowed = refl;
       is_short = refl;
       rest = λ other.
-          (refl, with_rest_is (rest_says (tokens line)) says is);
+          (refl, with_rest_is (rest_says isa (tokens line)) says is);
       comment = λ here. absurd cc;
     }
 
-pub line_steps : (line : List ℕ) (says : Says) → list_any (λ b. eqb b 58) line ≡ false → line_of line ≡ Ok (None, says)
-    → HasSteps (list_all is_allowed line) (ltb MOST_LINE (length line)) (begins is_star line) (is_bars (tokens line))
+pub line_steps : (isa : InstructionSet) (line : List ℕ) (says : Says) → list_any (λ b. eqb b 58) line ≡ false
+    → line_of isa line ≡ Ok (None, says)
+    → HasSteps isa (list_all is_allowed line) (ltb MOST_LINE (length line)) (begins is_star line)
+    (is_bars (tokens line))
     line says
 unfolding line_of head_of
-line_steps line says none is =
-    steps_of (list_all is_allowed line) (ltb MOST_LINE (length line)) (begins is_star line) (is_bars (tokens line)) line
+line_steps isa line says none is =
+    steps_of isa (list_all is_allowed line) (ltb MOST_LINE (length line)) (begins is_star line)
+    (is_bars (tokens line)) line
     says (rw (head_is line none) at is)
 
 -- ---- bars
@@ -179,32 +183,35 @@ abbrev begins_dotless : List Word → Bool
 begins_dotless [] = false
 begins_dotless (word ∷ words) = not (begins is_dot word)
 
-words_same : (line : List ℕ) (beside : Bool) (words : List Word) (says : Says) → rest_says words ≡ Ok says
+words_same : (isa : InstructionSet) (line : List ℕ) (beside : Bool) (words : List Word) (says : Says)
+    → rest_says isa words ≡ Ok says
     → (beside ≡ true → says ≡ Nothing → ⊥)
-    → (begins_dotless words ≡ true → instruction_says line ≡ Ok says) → words_say beside line words ≡ Ok says
+    → (begins_dotless words ≡ true → instruction_says isa line ≡ Ok says) → words_say isa beside line words ≡ Ok says
 unfolding rest_says
-words_same line true [] says is filled instruction = absurd (filled refl (grind arith))
-words_same line false [] says is filled instruction = grind arith
-words_same line beside (word ∷ words) says is filled instruction = elim (cases_Bool (begins is_dot word)) [
+words_same isa line true [] says is filled instruction = absurd (filled refl (grind arith))
+words_same isa line false [] says is filled instruction = grind arith
+words_same isa line beside (word ∷ words) says is filled instruction = elim (cases_Bool (begins is_dot word)) [
   | inl dot ↦ let no = rw dot at is in absurd cc
   | inr plain ↦ rw plain (instruction (rw plain refl))
 ]
 
-instruction_same : (line : List ℕ) (says : Says) → IsPlain line → rest_says (tokens line) ≡ Ok says → HasUnit says
-    → instruction_says line ≡ Ok says
+instruction_same : (isa : InstructionSet) (line : List ℕ) (says : Says) → IsPlain line
+    → rest_says isa (tokens line) ≡ Ok says → HasUnit says
+    → instruction_says isa line ≡ Ok says
 unfolding instruction_says
-instruction_same line says plain is unit =
+instruction_same isa line says plain is unit =
     let colon = no_colon_before line plain.no_colon in
     let dots = undotted_one line plain.one_dot in
     let words = plain_same [] (tokens line) plain.no_return (no_round_at_all line plain.no_round) in
     rw (colon, dots, words, is) (with_unit_is says unit)
 
-statement_same : (line : List ℕ) (beside : Bool) (says : Says) → IsPlain line → rest_says (tokens line) ≡ Ok says
+statement_same : (isa : InstructionSet) (line : List ℕ) (beside : Bool) (says : Says) → IsPlain line
+    → rest_says isa (tokens line) ≡ Ok says
     → HasUnit says
-    → (beside ≡ true → says ≡ Nothing → ⊥) → statement_says beside line ≡ Ok says
+    → (beside ≡ true → says ≡ Nothing → ⊥) → statement_says isa beside line ≡ Ok says
 unfolding statement_says
-statement_same line beside says plain is unit filled =
-    words_same line beside (tokens line) says is filled (λ dotless. instruction_same line says plain is unit)
+statement_same isa line beside says plain is unit filled =
+    words_same isa line beside (tokens line) says is filled (λ dotless. instruction_same isa line says plain is unit)
 
 -- ---- lines
 
@@ -212,11 +219,12 @@ not_star : (star : Bool) → (star ≡ true → ⊥) → star ≡ false
 not_star true never = absurd (never refl)
 not_star false never = refl
 
-alone_same : (line : List ℕ) → IsPlain line → (says : Says) → line_of line ≡ Ok (None, says) → HasUnit says
-    → line_says line ≡ Ok (line_said false None says)
+alone_same : (isa : InstructionSet) (line : List ℕ) → IsPlain line → (says : Says) → line_of isa line ≡ Ok (None, says)
+    → HasUnit says
+    → line_says isa line ≡ Ok (line_said false None says)
 unfolding line_says
-alone_same line plain says is unit =
-    let steps = line_steps line says plain.no_colon is in
+alone_same isa line plain says is unit =
+    let steps = line_steps isa line says plain.no_colon is in
     rw (steps.all_allowed, steps.is_short) (elim (cases_Bool (begins is_star line)) [
       | inl star ↦ rw (star, steps.comment star) refl
       | inr other ↦
@@ -225,20 +233,21 @@ alone_same line plain says is unit =
             other,
             no_bars line rest.0,
             ← no_colon_no_label line plain.no_colon,
-            statement_same line false says plain rest.1 unit (λ beside. absurd cc),
+            statement_same isa line false says plain rest.1 unit (λ beside. absurd cc),
           ) refl
     ])
 
-beside_same : (line : List ℕ) → IsPlain line → (says : Says) → line_of line ≡ Ok (None, says) → HasUnit says
+beside_same : (isa : InstructionSet) (line : List ℕ) → IsPlain line → (says : Says) → line_of isa line ≡ Ok (None, says)
+    → HasUnit says
     → (says ≡ Nothing → ⊥)
-    → length line ≤ 253 → line_says (codes "||" ++ line) ≡ Ok (line_said true None says)
+    → length line ≤ 253 → line_says isa (codes "||" ++ line) ≡ Ok (line_said true None says)
 unfolding line_says
-beside_same line plain says is unit filled short =
-    let steps = line_steps line says plain.no_colon is in
+beside_same isa line plain says is unit filled short =
+    let steps = line_steps isa line says plain.no_colon is in
     let no_star : begins is_star line ≡ false = not_star (begins is_star line) (λ star. filled (steps.comment star)) in
     let rest = steps.rest no_star in
     let few : ltb MOST_LINE (length (124 ∷ 124 ∷ line)) ≡ false = grind (arith, nat_tests) in
-    rw (steps.all_allowed, few, statement_same line true says plain rest.1 unit (λ beside. filled)) refl
+    rw (steps.all_allowed, few, statement_same isa line true says plain rest.1 unit (λ beside. filled)) refl
 
-pub reads_as_serial : (line : List ℕ) → IsPlain line → ReadsAsSerial line
-reads_as_serial line plain = record { alone = alone_same line plain; beside = beside_same line plain }
+pub reads_as_serial : (isa : InstructionSet) (line : List ℕ) → IsPlain line → ReadsAsSerial isa line
+reads_as_serial isa line plain = record { alone = alone_same isa line plain; beside = beside_same isa line plain }

@@ -14,6 +14,7 @@ use Rattle.c62_adopt_line.specs.declared.line.Written.{Written}
 use Rattle.c62_adopt_line.specs.Directive.{lays_nothing}
 use Rattle.c62_adopt_line.specs.Plain.{plain_words, undotted}
 use Rattle.c62_line.specs.declared.limits.TheConstants.{MOST_LINE}
+use Rattle.c62_op.specs.declared.set.InstructionSet.{InstructionSet}
 
 -- whether bars stand first, the label, and what stands behind these
 pub record Line : Type 0 where
@@ -44,23 +45,23 @@ abbrev pub has_colon : List ℕ → Bool
 has_colon bytes = list_any (λ b. b == 58) (take_while (λ b. not (b == 59)) bytes)
 
 -- what the instruction of serial text says that stands for these words
-abbrev pub plain_says : List Word → Result Says LineFault
-plain_says words = with_unit (rest_says (plain_words [] words))
+abbrev pub plain_says : InstructionSet → List Word → Result Says LineFault
+plain_says isa words = with_unit (rest_says isa (plain_words [] words))
 
-unfoldable pub instruction_says : List ℕ → Result Says LineFault
-instruction_says bytes = if has_colon bytes then Err (Read BadLabel) else plain_says (tokens (undotted false bytes))
+unfoldable pub instruction_says : InstructionSet → List ℕ → Result Says LineFault
+instruction_says isa bytes = if has_colon bytes then Err (Read BadLabel) else plain_says isa (tokens (undotted false bytes))
 
 -- ---- behind the bars or the label
 
 abbrev pub directive_says : Bool → List Word → Result Says LineFault
 directive_says beside words = if not beside && lays_nothing words then Ok Nothing else Err (Read Directive)
 
-abbrev pub words_say : Bool → List ℕ → List Word → Result Says LineFault
-words_say beside bytes [] = if beside then Err (Read UnknownMnemonic) else Ok Nothing
-words_say beside bytes (word ∷ words) = if begins is_dot word then directive_says beside (word ∷ words) else instruction_says bytes
+abbrev pub words_say : InstructionSet → Bool → List ℕ → List Word → Result Says LineFault
+words_say isa beside bytes [] = if beside then Err (Read UnknownMnemonic) else Ok Nothing
+words_say isa beside bytes (word ∷ words) = if begins is_dot word then directive_says beside (word ∷ words) else instruction_says isa bytes
 
-unfoldable pub statement_says : Bool → List ℕ → Result Says LineFault
-statement_says beside bytes = words_say beside bytes (tokens bytes)
+unfoldable pub statement_says : InstructionSet → Bool → List ℕ → Result Says LineFault
+statement_says isa beside bytes = words_say isa beside bytes (tokens bytes)
 
 -- ---- the front of a line
 
@@ -80,21 +81,21 @@ abbrev pub with_front : Bool → Option Word → Result Says LineFault → Resul
 with_front beside label (Ok says) = Ok (line_said beside label says)
 with_front beside label (Err fault) = Err fault
 
-abbrev pub with_label : List ℕ → Option Word → Result Line LineFault
-with_label line (Some label) = with_front false (Some label) (statement_says false (behind_colon line))
-with_label line None = with_front false None (statement_says false line)
+abbrev pub with_label : InstructionSet → List ℕ → Option Word → Result Line LineFault
+with_label isa line (Some label) = with_front false (Some label) (statement_says isa false (behind_colon line))
+with_label isa line None = with_front false None (statement_says isa false line)
 
-abbrev pub with_bars : List ℕ → Option (List ℕ) → Result Line LineFault
-with_bars line (Some rest) = with_front true None (statement_says true rest)
-with_bars line None = with_label line (label_field (undotted true line))
+abbrev pub with_bars : InstructionSet → List ℕ → Option (List ℕ) → Result Line LineFault
+with_bars isa line (Some rest) = with_front true None (statement_says isa true rest)
+with_bars isa line None = with_label isa line (label_field (undotted true line))
 
 -- what a line says, or its first fault
-unfoldable pub line_says : List ℕ → Result Line LineFault
-line_says line =
+unfoldable pub line_says : InstructionSet → List ℕ → Result Line LineFault
+line_says isa line =
     if not (list_all is_allowed line) then Err (Read NotAscii)
     else (if nat_lt MOST_LINE (length line) then Err (Read LineTooLong)
     else (if begins is_star line then Ok (line_said false None Nothing)
-    else with_bars line (behind_bars line)))
+    else with_bars isa line (behind_bars line)))
 
 -- what was read of a statement, and of a line; memory may run out before any answer
 abbrev pub Fails : {T : Type 0} → LineFault → Result T LineFault → Type 0

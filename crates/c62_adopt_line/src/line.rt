@@ -12,6 +12,7 @@ use crate::directive::lays_nothing;
 use crate::fault::LineFault;
 use crate::plain::{push_plain, undotted};
 use c62_line::{Cause, Label, MOST_LINE, What, label_field, owned_label, read_rest};
+use c62_op::InstructionSet;
 use c62_token::{Tokens, begins_with, scan_line};
 
 /// What a line says.
@@ -35,13 +36,13 @@ fn lacks_unit(what: &What) -> bool
 
 /// What the line of serial text says that stands for an instruction.
 #[tactic(auto, using(crate::proofs::SpacedWords::plain_back))]
-fn read_plain(text: &mut Vec<u8>, bytes: &[u8]) -> Result<What, LineFault>
-    ensures { MatchResult result (λ what. plain_says (tokens bytes.now) ≡ Ok (said_of what))
-        (λ fault. Fails fault (plain_says (tokens bytes.now))) }
+fn read_plain(isa: InstructionSet, text: &mut Vec<u8>, bytes: &[u8]) -> Result<What, LineFault>
+    ensures { MatchResult result (λ what. plain_says isa (tokens bytes.now) ≡ Ok (said_of what))
+        (λ fault. Fails fault (plain_says isa (tokens bytes.now))) }
 {
     text.clear();
     push_plain(text, Tokens::new(bytes))?;
-    match read_rest(Tokens::new(text)) {
+    match read_rest(isa, Tokens::new(text)) {
         Ok(statement) => {
             let what = statement.owned();
             if lacks_unit(&what) {
@@ -62,15 +63,19 @@ fn has_colon(bytes: &[u8]) -> bool
 }
 
 #[tactic(auto, unfolding(crate::specs::Line::instruction_says))]
-fn read_instruction(text: &mut Vec<u8>, bytes: &[u8]) -> Result<What, LineFault>
+fn read_instruction(
+    isa: InstructionSet,
+    text: &mut Vec<u8>,
+    bytes: &[u8],
+) -> Result<What, LineFault>
     requires { length bytes.now ≤ MOST_LINE }
-    ensures { MatchResult result (λ what. instruction_says bytes.now ≡ Ok (said_of what))
-        (λ fault. Fails fault (instruction_says bytes.now)) }
+    ensures { MatchResult result (λ what. instruction_says isa bytes.now ≡ Ok (said_of what))
+        (λ fault. Fails fault (instruction_says isa bytes.now)) }
 {
     if has_colon(bytes) {
         return Err(LineFault::Read(Cause::BadLabel));
     }
-    read_plain(text, &undotted(false, bytes))
+    read_plain(isa, text, &undotted(false, bytes))
 }
 
 fn read_directive(beside: bool, words: Tokens<'_>) -> Result<What, LineFault>
@@ -86,10 +91,15 @@ fn read_directive(beside: bool, words: Tokens<'_>) -> Result<What, LineFault>
 
 /// What stands behind the bars, or behind the label where there is one.
 #[tactic(auto, unfolding(crate::specs::Line::statement_says))]
-fn read_statement(text: &mut Vec<u8>, beside: bool, bytes: &[u8]) -> Result<What, LineFault>
+fn read_statement(
+    isa: InstructionSet,
+    text: &mut Vec<u8>,
+    beside: bool,
+    bytes: &[u8],
+) -> Result<What, LineFault>
     requires { length bytes.now ≤ MOST_LINE }
-    ensures { MatchResult result (λ what. statement_says beside bytes.now ≡ Ok (said_of what))
-        (λ fault. Fails fault (statement_says beside bytes.now)) }
+    ensures { MatchResult result (λ what. statement_says isa beside bytes.now ≡ Ok (said_of what))
+        (λ fault. Fails fault (statement_says isa beside bytes.now)) }
 {
     let words = Tokens::new(bytes);
     match words.peek() {
@@ -104,7 +114,7 @@ fn read_statement(text: &mut Vec<u8>, beside: bool, bytes: &[u8]) -> Result<What
             if begins_with(b'.', word) {
                 read_directive(beside, words)
             } else {
-                read_instruction(text, bytes)
+                read_instruction(isa, text, bytes)
             }
         }
     }
@@ -150,13 +160,14 @@ pub fn behind_colon(line: &[u8]) -> &[u8]
 
 /// What a line without bars says whose label is this one.
 fn read_labelled(
+    isa: InstructionSet,
     text: &mut Vec<u8>,
     line: &[u8],
     label: Option<Label>,
 ) -> Result<Written, LineFault>
     requires { length line.now ≤ MOST_LINE }
-    ensures { MatchResult result (λ written. with_label line.now label ≡ Ok (line_written written))
-        (λ fault. Fails fault (with_label line.now label)) }
+    ensures { MatchResult result (λ written. with_label isa line.now label ≡ Ok (line_written written))
+        (λ fault. Fails fault (with_label isa line.now label)) }
 {
     let statement = match label {
         Some(_) => behind_colon(line),
@@ -164,7 +175,7 @@ fn read_labelled(
     };
     Ok(Written {
         beside: false,
-        what: read_statement(text, false, statement)?,
+        what: read_statement(isa, text, false, statement)?,
         label,
     })
 }
@@ -182,18 +193,18 @@ pub fn label_of(line: &[u8]) -> Option<Label>
 }
 
 /// What a line says that is no comment.
-fn read_fronted(text: &mut Vec<u8>, line: &[u8]) -> Result<Written, LineFault>
+fn read_fronted(isa: InstructionSet, text: &mut Vec<u8>, line: &[u8]) -> Result<Written, LineFault>
     requires { length line.now ≤ MOST_LINE }
-    ensures { MatchResult result (λ written. with_bars line.now (behind_bars line.now) ≡ Ok (line_written written))
-        (λ fault. Fails fault (with_bars line.now (behind_bars line.now))) }
+    ensures { MatchResult result (λ written. with_bars isa line.now (behind_bars line.now) ≡ Ok (line_written written))
+        (λ fault. Fails fault (with_bars isa line.now (behind_bars line.now))) }
 {
     match behind_bars(line) {
         Some(rest) => Ok(Written {
             beside: true,
             label: None,
-            what: read_statement(text, true, rest)?,
+            what: read_statement(isa, text, true, rest)?,
         }),
-        None => read_labelled(text, line, label_of(line)),
+        None => read_labelled(isa, text, line, label_of(line)),
     }
 }
 
@@ -207,9 +218,9 @@ fn read_fronted(text: &mut Vec<u8>, line: &[u8]) -> Result<Written, LineFault>
 /// The first fault of the line that needs no other line. Bars in front are none, wherever the line stands. `Memory` may come
 /// in place of any answer.
 #[tactic(auto, unfolding(crate::specs::Line::line_says))]
-pub fn read_line(text: &mut Vec<u8>, line: &[u8]) -> Result<Written, LineFault>
-    ensures { MatchResult result (λ written. line_says line.now ≡ Ok (line_written written))
-        (λ fault. Fails fault (line_says line.now)) }
+pub fn read_line(isa: InstructionSet, text: &mut Vec<u8>, line: &[u8]) -> Result<Written, LineFault>
+    ensures { MatchResult result (λ written. line_says isa line.now ≡ Ok (line_written written))
+        (λ fault. Fails fault (line_says isa line.now)) }
 {
     if !scan_line(line).allowed {
         return Err(LineFault::Read(Cause::NotAscii));
@@ -224,5 +235,5 @@ pub fn read_line(text: &mut Vec<u8>, line: &[u8]) -> Result<Written, LineFault>
             what: What::Empty,
         });
     }
-    read_fronted(text, line)
+    read_fronted(isa, text, line)
 }

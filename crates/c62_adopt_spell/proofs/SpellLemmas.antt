@@ -18,6 +18,7 @@ use Rattle.c62_adopt_spell.specs.Line.{IsItself, IsPlain, is_readable, last_byte
 use Rattle.c62_adopt_spell.specs.Line.{speaks, spelled, spelled_plain, without_end}
 use Rattle.c62_adopt_spell.specs.Text.{text_of}
 use Rattle.c62_line.specs.declared.limits.TheConstants.{MOST_LINE}
+use Rattle.c62_op.specs.declared.set.InstructionSet.{InstructionSet}
 
 -- one line more is written
 pub line_more : (front line : List ℕ) (lines : List (List ℕ))
@@ -35,67 +36,73 @@ long_so line long = grind (arith, nat_tests)
 few_so : (line : List ℕ) → nat_le (length line) MOST_LINE ≡ true → length line ≤ MOST_LINE
 few_so line short = grind (arith, nat_tests)
 
-unreadable_silent : (line : List ℕ) → is_readable line ≡ false → speaks (line_says line) ≡ false
+unreadable_silent : (isa : InstructionSet) (line : List ℕ) → is_readable line ≡ false
+    → speaks (line_says isa line) ≡ false
 unfolding line_says
-unreadable_silent line is = elim (cases_Bool (list_all is_allowed line)) [
+unreadable_silent isa line is = elim (cases_Bool (list_all is_allowed line)) [
   | inl allowed ↦ rw (allowed, long_so line (rw allowed at is)) refl
   | inr other ↦ rw other refl
 ]
 
-pub remark_so : (names : List Setting) (line : List ℕ) → is_readable line ≡ true → is_remark line ≡ true
-    → spelled names line ≡ line
+pub remark_so : (isa : InstructionSet) (names : List Setting) (line : List ℕ) → is_readable line ≡ true
+    → is_remark line ≡ true
+    → spelled isa names line ≡ line
 unfolding spelled
-remark_so names line readable is = rw (readable, is) refl
+remark_so isa names line readable is = rw (readable, is) refl
 
-pub remark_sets : (names : List Setting) (line : List ℕ) → is_readable line ≡ true → is_remark line ≡ true
-    → names_below names line ≡ names
+pub remark_sets : (isa : InstructionSet) (names : List Setting) (line : List ℕ) → is_readable line ≡ true
+    → is_remark line ≡ true
+    → names_below isa names line ≡ names
 unfolding names_below
-remark_sets names line readable is = rw (readable, is) refl
+remark_sets isa names line readable is = rw (readable, is) refl
 
-pub itself_so : (names : List Setting) (line : List ℕ) → IsItself line → spelled names line ≡ line
+pub itself_so : (isa : InstructionSet) (names : List Setting) (line : List ℕ) → IsItself isa line
+    → spelled isa names line ≡ line
 unfolding IsItself
-itself_so names line is = (is names).0
+itself_so isa names line is = (is names).0
 
-pub itself_sets : (names : List Setting) (line : List ℕ) → IsItself line → names_below names line ≡ names
+pub itself_sets : (isa : InstructionSet) (names : List Setting) (line : List ℕ) → IsItself isa line
+    → names_below isa names line ≡ names
 unfolding IsItself
-itself_sets names line is = (is names).1
+itself_sets isa names line is = (is names).1
 
-pub plain_so : (names : List Setting) (line : List ℕ) → IsPlain line
-    → spelled names line ≡ spelled_plain names (blanked Code line)
+pub plain_so : (isa : InstructionSet) (names : List Setting) (line : List ℕ) → IsPlain isa line
+    → spelled isa names line ≡ spelled_plain isa names (blanked Code line)
 unfolding IsPlain
-plain_so names line is = (is names).0
+plain_so isa names line is = (is names).0
 
-pub plain_sets : (names : List Setting) (line : List ℕ) → IsPlain line
-    → names_below names line ≡ names_plain names (blanked Code line)
+pub plain_sets : (isa : InstructionSet) (names : List Setting) (line : List ℕ) → IsPlain isa line
+    → names_below isa names line ≡ names_plain isa names (blanked Code line)
 unfolding IsPlain
-plain_sets names line is = (is names).1
+plain_sets isa names line is = (is names).1
 
 -- what says something
-says_so : (line : List ℕ) → is_readable line ≡ true → speaks (line_says line) ≡ true → IsItself line
+says_so : (isa : InstructionSet) (line : List ℕ) → is_readable line ≡ true → speaks (line_says isa line) ≡ true
+    → IsItself isa line
 unfolding spelled names_below IsItself
-says_so line readable is names = elim (cases_Bool (is_remark line)) [
+says_so isa line readable is names = elim (cases_Bool (is_remark line)) [
   | inl remark ↦ (rw (readable, remark) refl, rw (readable, remark) refl)
   | inr other ↦ (rw (readable, other, is) refl, rw (readable, other, is) refl)
 ]
 
-empty_so : IsItself []
+empty_so : (isa : InstructionSet) → IsItself isa []
 unfolding spelled names_below IsItself
-empty_so names = (rw empty_reads refl, rw empty_reads (append-nil names))
+empty_so isa names = (rw (empty_reads isa) refl, rw (empty_reads isa) (append-nil names))
 
-pub stays_so : (line : List ℕ) → stays line ≡ true → IsItself line
-stays_so [] is = empty_so
-stays_so (b ∷ line) is = elim (cases_Bool (is_readable (b ∷ line))) [
-  | inl readable ↦ says_so (b ∷ line) readable is
-  | inr other ↦ let silent : true ≡ false = sym is ∙ unreadable_silent (b ∷ line) other in absurd cc
+pub stays_so : (isa : InstructionSet) (line : List ℕ) → stays isa line ≡ true → IsItself isa line
+stays_so isa [] is = empty_so isa
+stays_so isa (b ∷ line) is = elim (cases_Bool (is_readable (b ∷ line))) [
+  | inl readable ↦ says_so isa (b ∷ line) readable is
+  | inr other ↦ let silent : true ≡ false = sym is ∙ unreadable_silent isa (b ∷ line) other in absurd cc
 ]
 
-pub stay : (lines : List (List ℕ)) → StayAsTheyAre lines
-stay [] all = refl
-stay (line ∷ lines) all =
-    let parts = and_parts (stays line) (list_all stays lines) all in
-    let itself = stays_so line parts.0 in
-    rw (itself_so [] line itself, itself_sets [] line itself)
-    (ap (λ (others : List (List ℕ)). line ∷ others) (stay lines parts.1))
+pub stay : (isa : InstructionSet) (lines : List (List ℕ)) → StayAsTheyAre isa lines
+stay isa [] all = refl
+stay isa (line ∷ lines) all =
+    let parts = and_parts (stays isa line) (list_all (stays isa) lines) all in
+    let itself = stays_so isa line parts.0 in
+    rw (itself_so isa [] line itself, itself_sets isa [] line itself)
+    (ap (λ (others : List (List ℕ)). line ∷ others) (stay isa lines parts.1))
 
 -- ---- what has no comment
 
@@ -130,10 +137,11 @@ kept_so : (line : List ℕ) → IsKept Code line → uncommented line ≡ Some l
 kept_so line kept = rw (kept.over, kept.bytes) refl
 
 -- what can be read and has no comment stands as it is
-read_so : (line : List ℕ) → is_readable line ≡ true → is_remark line ≡ false → reads (line_says line) ≡ true
-    → IsKept Code line → IsItself line
+read_so : (isa : InstructionSet) (line : List ℕ) → is_readable line ≡ true → is_remark line ≡ false
+    → reads (line_says isa line) ≡ true
+    → IsKept Code line → IsItself isa line
 unfolding spelled names_below IsItself
-read_so line readable plain read kept names = elim (cases_Bool (speaks (line_says line))) [
+read_so isa line readable plain read kept names = elim (cases_Bool (speaks (line_says isa line))) [
   | inl says ↦ (rw (readable, plain, says) refl, rw (readable, plain, says) refl)
   | inr silent ↦ (
     rw (readable, plain, silent, kept_so line kept, read) refl,
@@ -142,31 +150,33 @@ read_so line readable plain read kept names = elim (cases_Bool (speaks (line_say
   )
 ]
 
-semicolon_so : (line : List ℕ) → is_readable (59 ∷ line) ≡ true → IsItself (59 ∷ line)
-semicolon_so line readable =
+semicolon_so : (isa : InstructionSet) (line : List ℕ) → is_readable (59 ∷ line) ≡ true → IsItself isa (59 ∷ line)
+semicolon_so isa line readable =
     let parts = and_parts (list_all is_allowed (59 ∷ line)) (nat_le (length (59 ∷ line)) MOST_LINE) readable in
-    read_so (59 ∷ line) readable refl
-    (rw (comment_nothing [] line (parts.0, few_so (59 ∷ line) parts.1), empty_reads) refl)
+    read_so isa (59 ∷ line) readable refl
+    (rw (comment_nothing isa [] line (parts.0, few_so (59 ∷ line) parts.1), empty_reads isa) refl)
     (record { bytes = behind_byte 59 Remark line (remark_kept line); over = (remark_kept line).over })
 
-pub empty_line : (line : List ℕ) → length line ≡ 0 → IsItself line
-empty_line [] none = empty_so
-empty_line (b ∷ line) none = absurd (omega (arith, none))
+pub empty_line : (isa : InstructionSet) (line : List ℕ) → length line ≡ 0 → IsItself isa line
+empty_line isa [] none = empty_so isa
+empty_line isa (b ∷ line) none = absurd (omega (arith, none))
 
-pub semicolon_line : (line : List ℕ) → is_readable line ≡ true → begins (λ b. eqb b 59) line ≡ true → IsItself line
-semicolon_line [] readable is = absurd cc
-semicolon_line (b ∷ line) readable is =
+pub semicolon_line : (isa : InstructionSet) (line : List ℕ) → is_readable line ≡ true
+    → begins (λ b. eqb b 59) line ≡ true → IsItself isa line
+semicolon_line isa [] readable is = absurd cc
+semicolon_line isa (b ∷ line) readable is =
     let first : b ≡ 59 = grind (arith, nat_tests) in
-    subst (λ (c : ℕ). IsItself (c ∷ line)) (sym first) (semicolon_so line (rw first at readable))
+    subst (λ (c : ℕ). IsItself isa (c ∷ line)) (sym first) (semicolon_so isa line (rw first at readable))
 
-pub unreadable_so : (names : List Setting) (line : List ℕ) → is_readable line ≡ false
-    → spelled names line ≡ without_end line
+pub unreadable_so : (isa : InstructionSet) (names : List Setting) (line : List ℕ) → is_readable line ≡ false
+    → spelled isa names line ≡ without_end line
 unfolding spelled
-unreadable_so names line is = rw is refl
+unreadable_so isa names line is = rw is refl
 
-pub unreadable_sets : (names : List Setting) (line : List ℕ) → is_readable line ≡ false → names_below names line ≡ names
+pub unreadable_sets : (isa : InstructionSet) (names : List Setting) (line : List ℕ) → is_readable line ≡ false
+    → names_below isa names line ≡ names
 unfolding names_below
-unreadable_sets names line is = rw is refl
+unreadable_sets isa names line is = rw is refl
 
 -- the last byte is apart from those before it
 end_so : (front : List ℕ) (b : ℕ) → without_end (front ++ b ∷ []) ≡ front ++ last_byte b ∷ []
@@ -180,20 +190,21 @@ end_more old front b = append_assoc old front (last_byte b ∷ [])
 
 -- ---- whether a line that can be read and is no comment stands as it is
 
-module _ (line : List ℕ) (readable : is_readable line ≡ true) (plain : is_remark line ≡ false) where
-  pub speaks_so : true ≡ speaks (line_says line) → IsItself line
-  speaks_so is = says_so line readable (sym is)
+module _ (isa : InstructionSet) (line : List ℕ) (readable : is_readable line ≡ true)
+    (plain : is_remark line ≡ false) where
+  pub speaks_so : true ≡ speaks (line_says isa line) → IsItself isa line
+  speaks_so is = says_so isa line readable (sym is)
 
-  pub reads_so : true ≡ reads (line_says line) → list_any (λ b. eqb b 47) line ≡ false → IsItself line
-  reads_so is none = read_so line readable plain (sym is) (code_kept line none)
+  pub reads_so : true ≡ reads (line_says isa line) → list_any (λ b. eqb b 47) line ≡ false → IsItself isa line
+  reads_so is none = read_so isa line readable plain (sym is) (code_kept line none)
 
   -- a comment that doesn't end
-  pub open_so : false ≡ speaks (line_says line) → is_within (place_at_end Code line) ≡ true → IsItself line
+  pub open_so : false ≡ speaks (line_says isa line) → is_within (place_at_end Code line) ≡ true → IsItself isa line
   unfolding spelled names_below IsItself
   open_so silent within names =
       (rw (readable, plain, ← silent, within) refl, rw (readable, plain, ← silent, within) refl)
 
-  pub ended_so : false ≡ speaks (line_says line) → is_within (place_at_end Code line) ≡ false → IsPlain line
+  pub ended_so : false ≡ speaks (line_says isa line) → is_within (place_at_end Code line) ≡ false → IsPlain isa line
   unfolding spelled names_below IsPlain
   ended_so silent within names =
       (rw (readable, plain, ← silent, within) refl, rw (readable, plain, ← silent, within) refl)

@@ -16,14 +16,15 @@ use Rattle.c62_adopt_spell.specs.Comment.{blanked, is_remark, uncommented}
 use Rattle.c62_adopt_spell.specs.Names.{setting_of}
 use Rattle.c62_adopt_spell.specs.Operation.{is_instruction}
 use Rattle.c62_adopt_spell.specs.Statement.{has_pair, stated}
+use Rattle.c62_op.specs.declared.set.InstructionSet.{InstructionSet}
 
 -- ---- a label without a colon
 
 -- the word that stands in the first column, where it is a label and no instruction
-abbrev pub column_label : List ℕ → List Word → Option Word
-column_label line [] = None
-column_label line (word ∷ words) =
-    if begins is_word_byte line && is_label word && not (is_instruction word) then Some word else None
+abbrev pub column_label : InstructionSet → List ℕ → List Word → Option Word
+column_label isa line [] = None
+column_label isa line (word ∷ words) =
+    if begins is_word_byte line && is_label word && not (is_instruction isa word) then Some word else None
 
 -- ---- a line
 
@@ -31,17 +32,17 @@ abbrev pub labelled : List Setting → List ℕ → Option Word → List ℕ
 labelled names line (Some word) = word ++ codes ":" ++ stated names (drop (length word) line)
 labelled names line None = stated names line
 
-abbrev pub with_label : List Setting → List ℕ → Option Word → List ℕ
-with_label names line (Some label) = label ++ codes ":" ++ stated names (behind_colon line)
-with_label names line None = labelled names line (column_label line (tokens line))
+abbrev pub with_label : InstructionSet → List Setting → List ℕ → Option Word → List ℕ
+with_label isa names line (Some label) = label ++ codes ":" ++ stated names (behind_colon line)
+with_label isa names line None = labelled names line (column_label isa line (tokens line))
 
-abbrev pub with_bars : List Setting → List ℕ → Option (List ℕ) → List ℕ
-with_bars names line (Some rest) = codes "||" ++ stated names rest
-with_bars names line None = with_label names line (label_field (undotted true line))
+abbrev pub with_bars : InstructionSet → List Setting → List ℕ → Option (List ℕ) → List ℕ
+with_bars isa names line (Some rest) = codes "||" ++ stated names rest
+with_bars isa names line None = with_label isa names line (label_field (undotted true line))
 
 -- the line in the spelling that the reader of lines has, below these settings
-unfoldable pub respelled : List Setting → List ℕ → List ℕ
-respelled names line = with_bars names line (behind_bars line)
+unfoldable pub respelled : InstructionSet → List Setting → List ℕ → List ℕ
+respelled isa names line = with_bars isa names line (behind_bars line)
 
 -- ---- when it stands for the line
 
@@ -62,36 +63,36 @@ reads (Err fault) = false
 reads (Ok line) = true
 
 -- what can't be read as it stands is read so where this can be, and a pair of registers is refused as operands are
-abbrev pub if_better : List ℕ → List ℕ → List ℕ
-if_better line other =
-    if not (reads (line_says line)) && (reads (line_says other) || has_pair (tokens line)) then other else line
+abbrev pub if_better : InstructionSet → List ℕ → List ℕ → List ℕ
+if_better isa line other =
+    if not (reads (line_says isa line)) && (reads (line_says isa other) || has_pair (tokens line)) then other else line
 
 -- ---- a line without comments
 
 -- what it sets, where it can't be read as it stands
-abbrev pub set_by : List Setting → List ℕ → Option Setting
-set_by names line = if reads (line_says line) then None else setting_of names (begins is_word_byte line) (tokens line)
+abbrev pub set_by : InstructionSet → List Setting → List ℕ → Option Setting
+set_by isa names line = if reads (line_says isa line) then None else setting_of isa names (begins is_word_byte line) (tokens line)
 
 -- what sets a name says nothing more
 abbrev pub unless_set : Option Setting → List ℕ → List ℕ
 unless_set (Some setting) line = []
 unless_set None line = line
 
-abbrev pub spelled_plain : List Setting → List ℕ → List ℕ
-spelled_plain names line = unless_set (set_by names line) (if_better line (respelled names line))
+abbrev pub spelled_plain : InstructionSet → List Setting → List ℕ → List ℕ
+spelled_plain isa names line = unless_set (set_by isa names line) (if_better isa line (respelled isa names line))
 
-abbrev pub names_plain : List Setting → List ℕ → List Setting
-names_plain names line = names ++ option_to_list (set_by names line)
+abbrev pub names_plain : InstructionSet → List Setting → List ℕ → List Setting
+names_plain isa names line = names ++ option_to_list (set_by isa names line)
 
 -- ---- a line
 
-abbrev pub plain_or : List Setting → List ℕ → Option (List ℕ) → List ℕ
-plain_or names line (Some plain) = spelled_plain names plain
-plain_or names line None = line
+abbrev pub plain_or : InstructionSet → List Setting → List ℕ → Option (List ℕ) → List ℕ
+plain_or isa names line (Some plain) = spelled_plain isa names plain
+plain_or isa names line None = line
 
-abbrev pub names_or : List Setting → Option (List ℕ) → List Setting
-names_or names (Some plain) = names_plain names plain
-names_or names None = names
+abbrev pub names_or : InstructionSet → List Setting → Option (List ℕ) → List Setting
+names_or isa names (Some plain) = names_plain isa names plain
+names_or isa names None = names
 
 -- A carriage return that stands last would be of the line's end once a line feed stands behind it. So another byte stands for it that isn't allowed.
 abbrev pub last_byte : ℕ → ℕ
@@ -103,21 +104,21 @@ without_end (b ∷ []) = last_byte b ∷ []
 without_end (b ∷ c ∷ line) = b ∷ without_end (c ∷ line)
 
 -- a line that says something by itself stands as it is, and so do comments and a line whose comment doesn't end
-unfoldable pub spelled : List Setting → List ℕ → List ℕ
-spelled names line =
+unfoldable pub spelled : InstructionSet → List Setting → List ℕ → List ℕ
+spelled isa names line =
     if not (is_readable line) then without_end line
-    else (if is_remark line || speaks (line_says line) then line else plain_or names line (uncommented line))
+    else (if is_remark line || speaks (line_says isa line) then line else plain_or isa names line (uncommented line))
 
 -- the settings below a line
-unfoldable pub names_below : List Setting → List ℕ → List Setting
-names_below names line =
+unfoldable pub names_below : InstructionSet → List Setting → List ℕ → List Setting
+names_below isa names line =
     if not (is_readable line) then names
-    else (if is_remark line || speaks (line_says line) then names else names_or names (uncommented line))
+    else (if is_remark line || speaks (line_says isa line) then names else names_or isa names (uncommented line))
 
 -- the line stands for itself, and sets nothing
-unfoldable pub IsItself : List ℕ → Type 0
-IsItself line = (names : List Setting) → (spelled names line ≡ line) × (names_below names line ≡ names)
+unfoldable pub IsItself : InstructionSet → List ℕ → Type 0
+IsItself isa line = (names : List Setting) → (spelled isa names line ≡ line) × (names_below isa names line ≡ names)
 
 -- it is what it is without its comments
-unfoldable pub IsPlain : List ℕ → Type 0
-IsPlain line = (names : List Setting) → (spelled names line ≡ spelled_plain names (blanked Code line)) × (names_below names line ≡ names_plain names (blanked Code line))
+unfoldable pub IsPlain : InstructionSet → List ℕ → Type 0
+IsPlain isa line = (names : List Setting) → (spelled isa names line ≡ spelled_plain isa names (blanked Code line)) × (names_below isa names line ≡ names_plain isa names (blanked Code line))

@@ -11,6 +11,7 @@ use Rattle.c62_adopt_spell.specs.declared.names.Value.TheVariants.{Constant, Reg
 use Rattle.c62_adopt_spell.specs.declared.names.TheConstants.{MOST_NAMES}
 use Rattle.c62_adopt_spell.specs.Number.{plain_name, value_of}
 use Rattle.c62_adopt_spell.specs.Operation.{is_instruction}
+use Rattle.c62_op.specs.declared.set.InstructionSet.{InstructionSet}
 
 -- ---- what a name stands for
 
@@ -36,17 +37,17 @@ value_said names word =
     option_or (option_map as_constant (value_of word)) (option_or (option_map as_register (register_of (plain_name word))) (value_named names word))
 
 -- A label that is no instruction may be a name. SP, DP and FP stand for no other register than they do without a setting.
-abbrev pub may_stand : Word → Word → Bool
-may_stand name value = is_label name && not (is_instruction name) && (bytes_eq (plain_name name) name || spells (plain_name name) (plain_name value))
+abbrev pub may_stand : InstructionSet → Word → Word → Bool
+may_stand isa name value = is_label name && not (is_instruction isa name) && (bytes_eq (plain_name name) name || spells (plain_name name) (plain_name value))
 
 abbrev pub setting_for : Word → Option Value → Option Setting
 setting_for name None = None
 setting_for name (Some value) = Some (record { name = name; value = value })
 
 -- the first of these words as the name of what another word says
-abbrev pub setting_to : List Setting → List Word → Word → Option Setting
-setting_to names [] value = None
-setting_to names (name ∷ words) value = if may_stand name value then setting_for name (value_said names value) else None
+abbrev pub setting_to : InstructionSet → List Setting → List Word → Word → Option Setting
+setting_to isa names [] value = None
+setting_to isa names (name ∷ words) value = if may_stand isa name value then setting_for name (value_said names value) else None
 
 -- ---- lines that set a name
 
@@ -54,24 +55,24 @@ abbrev pub sets : Word → Bool
 sets directive = spells (codes ".set") directive || spells (codes ".equ") directive
 
 -- the name stands before the value for `.set` and `.equ`, and behind it for `.asg`
-abbrev pub set_as : List Setting → Word → List Word → Word → Word → Option Setting
-set_as names directive words one other =
-    if sets directive then setting_to names words other
-    else (if spells (codes ".asg") directive then setting_to names (other ∷ []) one else None)
+abbrev pub set_as : InstructionSet → List Setting → Word → List Word → Word → Word → Option Setting
+set_as isa names directive words one other =
+    if sets directive then setting_to isa names words other
+    else (if spells (codes ".asg") directive then setting_to isa names (other ∷ []) one else None)
 
 -- the directive stands first, with a comma between name and value
-abbrev pub set_behind : List Setting → List Word → Option Setting
-set_behind names (directive ∷ one ∷ comma ∷ other ∷ []) =
-    if spells (codes ",") comma then set_as names directive (one ∷ comma ∷ other ∷ []) one other else None
-set_behind names words = None
+abbrev pub set_behind : InstructionSet → List Setting → List Word → Option Setting
+set_behind isa names (directive ∷ one ∷ comma ∷ other ∷ []) =
+    if spells (codes ",") comma then set_as isa names directive (one ∷ comma ∷ other ∷ []) one other else None
+set_behind isa names words = None
 
 -- the name stands first, without a comma
-abbrev pub set_before : List Setting → List Word → Option Setting
-set_before names (name ∷ directive ∷ value ∷ []) = if sets directive then setting_to names (name ∷ directive ∷ value ∷ []) value else None
-set_before names words = None
+abbrev pub set_before : InstructionSet → List Setting → List Word → Option Setting
+set_before isa names (name ∷ directive ∷ value ∷ []) = if sets directive then setting_to isa names (name ∷ directive ∷ value ∷ []) value else None
+set_before isa names words = None
 
 -- what a line's words set, whose first stands in the first column or doesn't
-abbrev pub setting_of : List Setting → Bool → List Word → Option Setting
-setting_of names column words =
+abbrev pub setting_of : InstructionSet → List Setting → Bool → List Word → Option Setting
+setting_of isa names column words =
     if nat_le MOST_NAMES (length names) then None
-    else option_or (set_behind names words) (if column then set_before names words else None)
+    else option_or (set_behind isa names words) (if column then set_before isa names words else None)

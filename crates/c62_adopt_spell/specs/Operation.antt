@@ -6,6 +6,7 @@ use Rattle.c62_line.specs.Mnemonic.{mnemonic_named}
 use Rattle.c62_token.specs.Kind.{Word}
 use Rattle.c62_token.specs.Number.{spells}
 use Rattle.c62_adopt_line.specs.Plain.{names_branch}
+use Rattle.c62_op.specs.declared.set.InstructionSet.{InstructionSet}
 
 -- what is an instruction by itself on this family of processors, though c62 doesn't know it
 abbrev pub bare_names : List Word
@@ -13,13 +14,13 @@ bare_names =
     codes "IDLE" ∷ codes "DINT" ∷ codes "RINT" ∷ codes "SWE" ∷ codes "SWENR" ∷ codes "SPKERNEL" ∷ codes "SPKERNELR" ∷ codes "SPMASK"
     ∷ codes "SPMASKR" ∷ []
 
-abbrev pub is_instruction : Word → Bool
-is_instruction word = is_some (mnemonic_named word) || names_branch word || list_any (λ name. spells name word) bare_names
+abbrev pub is_instruction : InstructionSet → Word → Bool
+is_instruction isa word = is_some (mnemonic_named isa word) || names_branch word || list_any (λ name. spells name word) bare_names
 
-abbrev pub begins_operation : List Word → Bool
-begins_operation words = is_some (mnemonic_front words)
+abbrev pub begins_operation : InstructionSet → List Word → Bool
+begins_operation isa words = is_some (mnemonic_front isa words)
 
 -- whether the first word is an instruction
-abbrev pub begins_instruction : List Word → Bool
-begins_instruction [] = false
-begins_instruction (word ∷ words) = is_instruction word
+abbrev pub begins_instruction : InstructionSet → List Word → Bool
+begins_instruction isa [] = false
+begins_instruction isa (word ∷ words) = is_instruction isa word

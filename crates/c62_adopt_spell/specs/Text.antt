@@ -4,15 +4,16 @@ use Rattle.std.specs.List.{flat_map}
 use Rattle.c62_read.specs.Text.{lines_of}
 use Rattle.c62_adopt_spell.specs.declared.names.Setting.{Setting}
 use Rattle.c62_adopt_spell.specs.Line.{names_below, spelled}
+use Rattle.c62_op.specs.declared.set.InstructionSet.{InstructionSet}
 
 -- lines, each with a line feed behind it
 abbrev pub text_of : List (List ℕ) → List ℕ
 text_of lines = flat_map (λ line. line ++ codes "\n") lines
 
 -- lines below these settings
-abbrev pub spelled_lines : List Setting → List (List ℕ) → List (List ℕ)
-spelled_lines names [] = []
-spelled_lines names (line ∷ lines) = spelled names line ∷ spelled_lines (names_below names line) lines
+abbrev pub spelled_lines : InstructionSet → List Setting → List (List ℕ) → List (List ℕ)
+spelled_lines isa names [] = []
+spelled_lines isa names (line ∷ lines) = spelled isa names line ∷ spelled_lines isa (names_below isa names line) lines
 
-unfoldable pub spelled_text : List ℕ → List ℕ
-spelled_text text = text_of (spelled_lines [] (lines_of text))
+unfoldable pub spelled_text : InstructionSet → List ℕ → List ℕ
+spelled_text isa text = text_of (spelled_lines isa [] (lines_of text))

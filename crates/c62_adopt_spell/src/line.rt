@@ -18,6 +18,7 @@ use crate::operation::begins_instruction;
 use crate::statement::{Words, has_pair, push_stated};
 use c62_adopt_line::{LineFault, Written, behind_bars, behind_colon, label_of, read_line};
 use c62_line::{Label, MOST_LINE, What};
+use c62_op::InstructionSet;
 use c62_token::number::is_label;
 use c62_token::{Tokens, begins_with, scan_line};
 use std::alloc::{AllocError, Global};
@@ -39,12 +40,12 @@ fn begins_in_column(line: &[u8]) -> bool
 }
 
 /// The word that stands in the first column, where it is a label and no instruction.
-fn column_label(line: &[u8]) -> Option<&[u8]>
-    ensures { option_copied result ≡ column_label line.now (tokens line.now) }
+fn column_label(isa: InstructionSet, line: &[u8]) -> Option<&[u8]>
+    ensures { option_copied result ≡ column_label isa line.now (tokens line.now) }
 {
     let words = Tokens::new(line);
     let word = words.peek()?;
-    if begins_in_column(line) && is_label(word) && !begins_instruction(words) {
+    if begins_in_column(line) && is_label(word) && !begins_instruction(isa, words) {
         Some(word)
     } else {
         None
@@ -79,14 +80,15 @@ fn push_labelled(
 
 /// Appends a line without bars and without a colon behind a label.
 fn push_plain_labelled(
+    isa: InstructionSet,
     text: &mut Vec<u8>,
     words: &mut Words,
     names: &[Setting],
     line: &[u8],
 ) -> Result<(), AllocError>
-    ensures { OnOk result (text.new.items ≡ text.old.items ++ labelled names.now line.now (column_label line.now (tokens line.now))) }
+    ensures { OnOk result (text.new.items ≡ text.old.items ++ labelled names.now line.now (column_label isa line.now (tokens line.now))) }
 {
-    match column_label(line) {
+    match column_label(isa, line) {
         None => push_stated(text, words, names, line),
         Some(word) => push_labelled(text, words, names, word, behind_word(word, line)),
     }
@@ -94,16 +96,17 @@ fn push_plain_labelled(
 
 /// Appends a line without bars that has this label.
 fn push_with_label(
+    isa: InstructionSet,
     text: &mut Vec<u8>,
     words: &mut Words,
     names: &[Setting],
     line: &[u8],
     label: &Option<Label>,
 ) -> Result<(), AllocError>
-    ensures { OnOk result (text.new.items ≡ text.old.items ++ with_label names.now line.now label.now) }
+    ensures { OnOk result (text.new.items ≡ text.old.items ++ with_label isa names.now line.now label.now) }
 {
     match label {
-        None => push_plain_labelled(text, words, names, line),
+        None => push_plain_labelled(isa, text, words, names, line),
         Some(label) => push_labelled(text, words, names, label.as_bytes(), behind_colon(line)),
     }
 }
@@ -111,16 +114,17 @@ fn push_with_label(
 /// Appends the line in the spelling that the reader of lines has, below these settings.
 #[tactic(auto, unfolding(crate::specs::Line::respelled))]
 fn push_respelled(
+    isa: InstructionSet,
     text: &mut Vec<u8>,
     words: &mut Words,
     names: &[Setting],
     line: &[u8],
 ) -> Result<(), AllocError>
     requires { length line.now ≤ MOST_LINE }
-    ensures { OnOk result (text.new.items ≡ text.old.items ++ respelled names.now line.now) }
+    ensures { OnOk result (text.new.items ≡ text.old.items ++ respelled isa names.now line.now) }
 {
     match behind_bars(line) {
-        None => push_with_label(text, words, names, line, &label_of(line)),
+        None => push_with_label(isa, text, words, names, line, &label_of(line)),
         Some(rest) => {
             text.extend_from_slice(b"||")?;
             push_stated(text, words, names, rest)
@@ -148,10 +152,10 @@ fn speaks(line: &Written) -> bool
 }
 
 /// What is read of a line: whether it can be read, and whether it then says something.
-fn read(plain: &mut Vec<u8>, line: &[u8]) -> Result<(bool, bool), AllocError>
-    ensures { IfOk result (λ read. (read.0 ≡ reads (line_says line.now)) × (read.1 ≡ speaks (line_says line.now))) }
+fn read(isa: InstructionSet, plain: &mut Vec<u8>, line: &[u8]) -> Result<(bool, bool), AllocError>
+    ensures { IfOk result (λ read. (read.0 ≡ reads (line_says isa line.now)) × (read.1 ≡ speaks (line_says isa line.now))) }
 {
-    match read_line(plain, line) {
+    match read_line(isa, plain, line) {
         Ok(written) => Ok((true, speaks(&written))),
         Err(LineFault::Memory) => Err(AllocError),
         Err(LineFault::Read(_) | LineFault::UnitWanted) => Ok((false, false)),
@@ -160,28 +164,29 @@ fn read(plain: &mut Vec<u8>, line: &[u8]) -> Result<(bool, bool), AllocError>
 
 /// Appends the one of two lines that stands for the first, of which is known whether it can be read.
 fn push_better(
+    isa: InstructionSet,
     text: &mut Vec<u8>,
     plain: &mut Vec<u8>,
     reading: bool,
     line: &[u8],
     other: &[u8],
 ) -> Result<(), AllocError>
-    requires { reading ≡ reads (line_says line.now) }
-    ensures { OnOk result (text.new.items ≡ text.old.items ++ if_better line.now other.now) }
+    requires { reading ≡ reads (line_says isa line.now) }
+    ensures { OnOk result (text.new.items ≡ text.old.items ++ if_better isa line.now other.now) }
 {
-    let better = !reading && (read(plain, other)?.0 || has_pair(Tokens::new(line)));
+    let better = !reading && (read(isa, plain, other)?.0 || has_pair(Tokens::new(line)));
     text.extend_from_slice(if better { other } else { line })
 }
 
 /// What a line without comments sets below these settings, of which is known whether it can be read as it stands.
-fn set_by(reading: bool, names: &[Setting], line: &[u8]) -> Option<Setting>
-    requires { reading ≡ reads (line_says line.now) }
-    ensures { result ≡ set_by names.now line.now }
+fn set_by(isa: InstructionSet, reading: bool, names: &[Setting], line: &[u8]) -> Option<Setting>
+    requires { reading ≡ reads (line_says isa line.now) }
+    ensures { result ≡ set_by isa names.now line.now }
 {
     if reading {
         None
     } else {
-        setting_of(names, begins_in_column(line), Tokens::new(line))
+        setting_of(isa, names, begins_in_column(line), Tokens::new(line))
     }
 }
 
@@ -210,26 +215,34 @@ impl Spare {
     /// Appends what stands for a line whose comments end, and of which some can't be read or says nothing. What it sets goes to the settings.
     fn push_plain(
         &mut self,
+        isa: InstructionSet,
         text: &mut Vec<u8>,
         names: &mut Vec<Setting>,
         line: &[u8],
     ) -> Result<(), AllocError>
         requires { length line.now ≤ MOST_LINE }
-        ensures text { OnOk result (text.new.items ≡ text.old.items ++ spelled_plain names.old.items (blanked Code line.now)) }
-        ensures names { OnOk result (names.new.items ≡ names_plain names.old.items (blanked Code line.now)) }
+        ensures text { OnOk result (text.new.items ≡ text.old.items ++ spelled_plain isa names.old.items (blanked Code line.now)) }
+        ensures names { OnOk result (names.new.items ≡ names_plain isa names.old.items (blanked Code line.now)) }
     {
         self.blanked.clear();
         push_blanked(&mut self.blanked, line)?;
-        let reading = read(&mut self.read, &self.blanked)?.0;
-        match set_by(reading, names, &self.blanked) {
+        let reading = read(isa, &mut self.read, &self.blanked)?.0;
+        match set_by(isa, reading, names, &self.blanked) {
             Some(setting) => {
                 names.push(setting)?;
                 Ok(())
             }
             None => {
                 self.other.clear();
-                push_respelled(&mut self.other, &mut self.words, names, &self.blanked)?;
-                push_better(text, &mut self.read, reading, &self.blanked, &self.other)
+                push_respelled(isa, &mut self.other, &mut self.words, names, &self.blanked)?;
+                push_better(
+                    isa,
+                    text,
+                    &mut self.read,
+                    reading,
+                    &self.blanked,
+                    &self.other,
+                )
             }
         }
     }
@@ -265,9 +278,9 @@ fn push_unreadable(text: &mut Vec<u8>, line: &[u8]) -> Result<(), AllocError>
 
 /// Whether a line that can be read has no bytes, or a `;` first.
 #[tactic(auto, using(crate::proofs::SpellLemmas::empty_line, crate::proofs::SpellLemmas::semicolon_line))]
-fn is_nothing_written(line: &[u8]) -> bool
+fn is_nothing_written(isa: InstructionSet, line: &[u8]) -> bool
     requires { IsTrue (is_readable line.now) }
-    ensures { IsTrue result → IsItself line.now }
+    ensures { IsTrue result → IsItself isa line.now }
 {
     if line.is_empty() {
         return true;
@@ -277,13 +290,13 @@ fn is_nothing_written(line: &[u8]) -> bool
 
 /// Whether a line stands as it is, of which is known whether it can be read and whether it says something.
 #[tactic(auto, using(crate::proofs::SpellLemmas::speaks_so, crate::proofs::SpellLemmas::reads_so, crate::proofs::SpellLemmas::open_so, crate::proofs::SpellLemmas::ended_so))]
-fn stands(reading: bool, speaking: bool, line: &[u8]) -> bool
+fn stands(isa: InstructionSet, reading: bool, speaking: bool, line: &[u8]) -> bool
     requires readable { IsTrue (is_readable line.now) }
     requires remark { is_remark line.now ≡ false }
-    requires reading { reading ≡ reads (line_says line.now) }
-    requires speaking { speaking ≡ speaks (line_says line.now) }
-    ensures itself { result ≡ true → IsItself line.now }
-    ensures plain { result ≡ false → IsPlain line.now }
+    requires reading { reading ≡ reads (line_says isa line.now) }
+    requires speaking { speaking ≡ speaks (line_says isa line.now) }
+    ensures itself { result ≡ true → IsItself isa line.now }
+    ensures plain { result ≡ false → IsPlain isa line.now }
 {
     if speaking {
         return true;
@@ -297,13 +310,14 @@ fn stands(reading: bool, speaking: bool, line: &[u8]) -> bool
 /// Appends the line that stands for this one below these settings, to which what it sets goes.
 #[tactic(auto, using(crate::proofs::SpellLemmas::unreadable_so, crate::proofs::SpellLemmas::unreadable_sets, crate::proofs::SpellLemmas::remark_so, crate::proofs::SpellLemmas::remark_sets, crate::proofs::SpellLemmas::itself_so, crate::proofs::SpellLemmas::itself_sets, crate::proofs::SpellLemmas::plain_so, crate::proofs::SpellLemmas::plain_sets))]
 pub(crate) fn push_spelled(
+    isa: InstructionSet,
     text: &mut Vec<u8>,
     names: &mut Vec<Setting>,
     spare: &mut Spare,
     line: &[u8],
 ) -> Result<(), AllocError>
-    ensures text { OnOk result (text.new.items ≡ text.old.items ++ spelled names.old.items line.now) }
-    ensures names { OnOk result (names.new.items ≡ names_below names.old.items line.now) }
+    ensures text { OnOk result (text.new.items ≡ text.old.items ++ spelled isa names.old.items line.now) }
+    ensures names { OnOk result (names.new.items ≡ names_below isa names.old.items line.now) }
 {
     if !is_readable(line) {
         return push_unreadable(text, line);
@@ -311,12 +325,12 @@ pub(crate) fn push_spelled(
     if is_remark(line) {
         return text.extend_from_slice(line);
     }
-    if is_nothing_written(line) {
+    if is_nothing_written(isa, line) {
         return text.extend_from_slice(line);
     }
-    let (reading, speaking) = read(&mut spare.read, line)?;
-    if stands(reading, speaking, line) {
+    let (reading, speaking) = read(isa, &mut spare.read, line)?;
+    if stands(isa, reading, speaking, line) {
         return text.extend_from_slice(line);
     }
-    spare.push_plain(text, names, line)
+    spare.push_plain(isa, text, names, line)
 }

@@ -10,6 +10,7 @@ use crate::number::{plain_name, value};
 use crate::operation::begins_instruction;
 use c62_insn::Reg;
 use c62_line::Label;
+use c62_op::InstructionSet;
 use c62_token::number::{is_label, register, spells};
 use c62_token::{Tokens, is_mark};
 
@@ -94,11 +95,16 @@ fn keeps_register(name: &[u8], value: &[u8]) -> bool
 }
 
 /// The first word as the name of what another word says.
-fn setting_to(names: &[Setting], name: Tokens<'_>, value: &[u8]) -> Option<Setting>
-    ensures { result ≡ setting_to names.now (words_left name.entry) value.now }
+fn setting_to(
+    isa: InstructionSet,
+    names: &[Setting],
+    name: Tokens<'_>,
+    value: &[u8],
+) -> Option<Setting>
+    ensures { result ≡ setting_to isa names.now (words_left name.entry) value.now }
 {
     let word = name.peek()?;
-    if is_label(word) && !begins_instruction(name) && keeps_register(word, value) {
+    if is_label(word) && !begins_instruction(isa, name) && keeps_register(word, value) {
         Some(Setting {
             name: Label::new(word),
             value: value_said(names, value)?,
@@ -115,8 +121,8 @@ fn sets(directive: &[u8]) -> bool
 }
 
 /// What words set that are a directive, two more and a comma between these.
-fn set_behind(names: &[Setting], words: Tokens<'_>) -> Option<Setting>
-    ensures { result ≡ set_behind names.now (words_left words.entry) }
+fn set_behind(isa: InstructionSet, names: &[Setting], words: Tokens<'_>) -> Option<Setting>
+    ensures { result ≡ set_behind isa names.now (words_left words.entry) }
 {
     let (directive, from_one) = words.split()?;
     let (one, behind) = from_one.split()?;
@@ -129,17 +135,17 @@ fn set_behind(names: &[Setting], words: Tokens<'_>) -> Option<Setting>
         return None;
     }
     if sets(directive) {
-        setting_to(names, from_one, other)
+        setting_to(isa, names, from_one, other)
     } else if spells(b".asg", directive) {
-        setting_to(names, from_other, one)
+        setting_to(isa, names, from_other, one)
     } else {
         None
     }
 }
 
 /// What words set that are a name, a directive and a value.
-fn set_before(names: &[Setting], words: Tokens<'_>) -> Option<Setting>
-    ensures { result ≡ set_before names.now (words_left words.entry) }
+fn set_before(isa: InstructionSet, names: &[Setting], words: Tokens<'_>) -> Option<Setting>
+    ensures { result ≡ set_before isa names.now (words_left words.entry) }
 {
     let (_, behind) = words.split()?;
     let (directive, behind) = behind.split()?;
@@ -147,22 +153,27 @@ fn set_before(names: &[Setting], words: Tokens<'_>) -> Option<Setting>
     if behind.peek().is_some() || !sets(directive) {
         None
     } else {
-        setting_to(names, words, value)
+        setting_to(isa, names, words, value)
     }
 }
 
 /// What a line's words set, whose first stands in the first column or doesn't.
-pub(crate) fn setting_of(names: &[Setting], column: bool, words: Tokens<'_>) -> Option<Setting>
-    ensures { result ≡ setting_of names.now column (words_left words.entry) }
+pub(crate) fn setting_of(
+    isa: InstructionSet,
+    names: &[Setting],
+    column: bool,
+    words: Tokens<'_>,
+) -> Option<Setting>
+    ensures { result ≡ setting_of isa names.now column (words_left words.entry) }
 {
     if MOST_NAMES <= names.len() {
         return None;
     }
-    if let Some(setting) = set_behind(names, words) {
+    if let Some(setting) = set_behind(isa, names, words) {
         return Some(setting);
     }
     if column {
-        set_before(names, words)
+        set_before(isa, names, words)
     } else {
         None
     }

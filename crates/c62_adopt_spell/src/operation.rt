@@ -8,6 +8,7 @@ ghost use Rattle.c62_adopt_spell.specs.Operation.{bare_names, begins_operation, 
 
 use crate::statement::names_branch;
 use c62_line::first_mnemonic;
+use c62_op::InstructionSet;
 use c62_token::Tokens;
 use c62_token::number::spells;
 
@@ -37,18 +38,18 @@ fn is_bare(word: &[u8]) -> bool
 }
 
 /// Whether the first word names an operation or a pseudo-operation.
-fn names_operation(words: Tokens<'_>) -> bool
-    ensures { result ≡ begins_operation (words_left words.entry) }
+fn names_operation(isa: InstructionSet, words: Tokens<'_>) -> bool
+    ensures { result ≡ begins_operation isa (words_left words.entry) }
 {
-    first_mnemonic(words).is_some()
+    first_mnemonic(isa, words).is_some()
 }
 
 /// Whether the first word is an instruction, and so neither a label without a colon nor a name.
-pub(crate) fn begins_instruction(words: Tokens<'_>) -> bool
-    ensures { result ≡ begins_instruction (words_left words.entry) }
+pub(crate) fn begins_instruction(isa: InstructionSet, words: Tokens<'_>) -> bool
+    ensures { result ≡ begins_instruction isa (words_left words.entry) }
 {
     match words.peek() {
         None => false,
-        Some(word) => names_operation(words) || names_branch(word) || is_bare(word),
+        Some(word) => names_operation(isa, words) || names_branch(word) || is_bare(word),
     }
 }

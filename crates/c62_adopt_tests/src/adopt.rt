@@ -3,12 +3,13 @@
 use crate::expect::equal;
 use c62_adopt::{AdoptFault, adopt};
 use c62_listing::list;
+use c62_op::InstructionSet;
 use std::alloc::{AllocError, Global};
 use std::test::Fail;
 
 /// The listing of a text behind the number of cycles that were added, or what it is refused for.
 fn told(alloc: Global, text: &str, drain: bool) -> Result<String, AllocError> {
-    match adopt(alloc, text.as_bytes(), drain) {
+    match adopt(InstructionSet::Core, alloc, text.as_bytes(), drain) {
         Ok(adopted) => {
             let added = adopted.added;
             let listing = list(alloc, &adopted.packets)?;

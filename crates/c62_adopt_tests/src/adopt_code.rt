@@ -2,6 +2,7 @@
 
 use c62_adopt_code::code_of;
 use c62_adopt_cut::MOST_BYTES;
+use c62_op::InstructionSet;
 use std::alloc::{AllocError, Global};
 use std::test::Fail;
 
@@ -10,7 +11,7 @@ fn told(alloc: Global, text: &str) -> Result<String, AllocError> {
     if MOST_BYTES < text.len() {
         return format!(in alloc; "too long");
     }
-    match code_of(alloc, text.as_bytes()) {
+    match code_of(InstructionSet::Core, alloc, text.as_bytes()) {
         Ok(code) => match str::from_utf8(&code) {
             Ok(code) => format!(in alloc; "{code}"),
             Err(_) => format!(in alloc; "no text"),

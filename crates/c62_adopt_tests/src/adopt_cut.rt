@@ -3,6 +3,7 @@
 use crate::expect::equal;
 use c62_adopt_cut::{Cut, Draft, Issue, TextFault, cycles_lacking, first_in_flight, read_cut};
 use c62_line::Label;
+use c62_op::InstructionSet;
 use c62_read::MOST_BLOCKS;
 use std::alloc::{AllocError, Global};
 use std::test::Fail;
@@ -65,7 +66,7 @@ fn refused(alloc: Global, cut: &Cut, drain: bool) -> Result<String, Fail> {
 
 /// The blocks of a text, or why it is refused.
 fn told(alloc: Global, text: &[u8]) -> Result<String, Fail> {
-    let cut = read_cut(alloc, text)?;
+    let cut = read_cut(InstructionSet::Core, alloc, text)?;
     let mut out = refused(alloc, &cut, false)?;
     if out.is_empty() {
         push_drafts(&mut out, alloc, &cut.drafts)?;
@@ -291,7 +292,7 @@ fn told_of_long(alloc: Global, line: &str, times: u32, behind: &str) -> Result<S
         text.push_str(line)?;
     }
     text.push_str(behind)?;
-    let cut = read_cut(alloc, text.as_bytes())?;
+    let cut = read_cut(InstructionSet::Core, alloc, text.as_bytes())?;
     refused(alloc, &cut, false)
 }
 
@@ -345,7 +346,7 @@ const FAULTY: [(&str, &str); 11] = [
 
 /// The blocks of a text above its first faulty line, and their cycles and the fault.
 fn told_above(alloc: Global, text: &[u8]) -> Result<String, Fail> {
-    let cut = read_cut(alloc, text)?;
+    let cut = read_cut(InstructionSet::Core, alloc, text)?;
     let mut out = String::new(alloc);
     push_drafts(&mut out, alloc, &cut.drafts)?;
     if let Some(fault) = cut.fault {
@@ -440,7 +441,7 @@ const DRAINED: [(&str, u64, &str); 22] = [
 #[test]
 fn lacking_cycles_are_added(rt: HostRuntime) -> Result<(), Fail> {
     for (text, lacking, want) in DRAINED.iter() {
-        let cut = read_cut(rt.alloc(), text.as_bytes())?;
+        let cut = read_cut(InstructionSet::Core, rt.alloc(), text.as_bytes())?;
         assert!(rt; cut.drafts.len() <= MOST_BLOCKS);
         let told = refused(rt.alloc(), &cut, true)?;
         assert!(rt; told.as_str() == *want, "{text} {told}");

@@ -3,13 +3,13 @@
 use crate::expect::equal;
 use c62_adopt_cut::read_cut;
 use c62_adopt_late::first_late;
-use c62_op::Side;
+use c62_op::{InstructionSet, Side};
 use std::alloc::Global;
 use std::test::Fail;
 
 /// The register and the line that are told of a text, or `-`.
 fn told(alloc: Global, text: &[u8]) -> Result<String, Fail> {
-    let cut = read_cut(alloc, text)?;
+    let cut = read_cut(InstructionSet::Core, alloc, text)?;
     let mut out = String::new(alloc);
     let Some(late) = first_late(&cut) else {
         out.push('-')?;

@@ -1,12 +1,13 @@
 //! Lines, and the lines that stand for them.
 
 use c62_adopt_spell::spelled_text;
+use c62_op::InstructionSet;
 use std::alloc::{AllocError, Global};
 use std::test::Fail;
 
 /// The text that stands for this one.
 fn told(alloc: Global, text: &str) -> Result<String, AllocError> {
-    let other = spelled_text(alloc, text.as_bytes())?;
+    let other = spelled_text(InstructionSet::Core, alloc, text.as_bytes())?;
     match str::from_utf8(&other) {
         Ok(other) => format!(in alloc; "{other}"),
         Err(_) => format!(in alloc; "no text"),

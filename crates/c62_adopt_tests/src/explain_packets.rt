@@ -3,6 +3,7 @@
 use crate::expect::equal_in;
 use c62_adopt::adopt;
 use c62_explain_packets::{Linted, explain, lint_listing, lint_packets, of_adopt};
+use c62_op::InstructionSet;
 use std::alloc::Global;
 use std::process::Abort;
 use std::test::Fail;
@@ -19,10 +20,16 @@ fn check_lines(rt: &impl Abort, text: &str, found: &[u8], want: &[&str]) -> Resu
 
 /// What is said of a text of packets that isn't adopted.
 fn told(alloc: Global, text: &str) -> Result<Vec<u8>, Fail> {
-    match adopt(alloc, text.as_bytes(), false) {
+    match adopt(InstructionSet::Core, alloc, text.as_bytes(), false) {
         Ok(_) => Ok(Vec::new(alloc)),
         Err(fault) => match of_adopt(fault) {
-            Some(finding) => Ok(explain(alloc, b"h.s", text.as_bytes(), finding)?),
+            Some(finding) => Ok(explain(
+                InstructionSet::Core,
+                alloc,
+                b"h.s",
+                text.as_bytes(),
+                finding,
+            )?),
             None => Ok(Vec::new(alloc)),
         },
     }
@@ -194,7 +201,13 @@ fn check_linted(
 #[test]
 fn packets_are_linted(rt: HostRuntime) -> Result<(), Fail> {
     for (text, faulty, want) in LINTED {
-        let found = lint_packets(rt.alloc(), b"h.s", text.as_bytes(), 100)?;
+        let found = lint_packets(
+            InstructionSet::Core,
+            rt.alloc(),
+            b"h.s",
+            text.as_bytes(),
+            100,
+        )?;
         check_linted(&rt, text, &found, faulty, want)?;
     }
     Ok(())
@@ -225,7 +238,7 @@ const LISTINGS: [(&str, bool, &[&str]); 4] = [
 #[test]
 fn listings_are_linted(rt: HostRuntime) -> Result<(), Fail> {
     for (text, faulty, want) in LISTINGS {
-        let found = lint_listing(rt.alloc(), b"h.s", text.as_bytes())?;
+        let found = lint_listing(InstructionSet::Core, rt.alloc(), b"h.s", text.as_bytes())?;
         check_linted(&rt, text, &found, faulty, want)?;
     }
     Ok(())

@@ -1,12 +1,18 @@
 //! Texts and what is taken of them, worked out by hand.
 
+use c62_op::InstructionSet;
 use c62_reach::reached_text;
 use std::alloc::{AllocError, Global};
 use std::test::Fail;
 
 /// What is taken of a text, or why nothing is.
 fn told(alloc: Global, text: &str, name: &str) -> Result<String, AllocError> {
-    match reached_text(alloc, text.as_bytes(), name.as_bytes()) {
+    match reached_text(
+        InstructionSet::Core,
+        alloc,
+        text.as_bytes(),
+        name.as_bytes(),
+    ) {
         Ok(taken) => match str::from_utf8(&taken) {
             Ok(taken) => format!(in alloc; "{taken}"),
             Err(_) => format!(in alloc; "no text"),

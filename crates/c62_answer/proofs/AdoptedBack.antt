@@ -22,6 +22,7 @@ use Rattle.c62_command.specs.declared.command.Packing.{Packing}
 use Rattle.c62_answer.specs.Schedule.{AreScheduled, IsScheduled}
 use Rattle.c62_answer.specs.AdoptedBack.{IsAdoptedBack}
 use Rattle.c62_answer.proofs.ReadBack.{shown}
+use Rattle.c62_op.specs.declared.set.InstructionSet.{InstructionSet}
 
 -- ---- a block that ends in a branch
 
@@ -85,17 +86,17 @@ module _ (packing : Packing) where
   parted (b ∷ program) [] all begins = absurd all
   parted (b ∷ program) (q ∷ packets) all begins = parted_behind b q all.0 program packets all.1 (and_parts _ _ begins).1
 
-pub is_adopted_back : (packing : Packing) (drain : Bool) (text answer : List ℕ)
-    → IsAdoptedBack packing drain text answer
-is_adopted_back packing drain text answer packed =
+pub is_adopted_back : (isa : InstructionSet) (packing : Packing) (drain : Bool) (text answer : List ℕ)
+    → IsAdoptedBack isa packing drain text answer
+is_adopted_back isa packing drain text answer packed =
     let program = packed.program in
     let packets = packed.packets in
-    let whole = shown packing text program packets packed.says packed.packed in
+    let whole = shown isa packing text program packets packed.says packed.packed in
     let cut = parted packing program packets packed.packed
-    (has_cut_blocks text (map block_parts program) packed.says).begins in
-    let stays = listings_stay drain packets whole cut in
+    (has_cut_blocks isa text (map block_parts program) packed.says).begins in
+    let stays = listings_stay isa drain packets whole cut in
     record {
       packets = stays.others;
-      adopted = subst (λ (t : List ℕ). IsAdopted drain t stays.others 0) (sym packed.listed) stays.adopted;
+      adopted = subst (λ (t : List ℕ). IsAdopted isa drain t stays.others 0) (sym packed.listed) stays.adopted;
       listed = packed.listed ∙ sym stays.same;
     }

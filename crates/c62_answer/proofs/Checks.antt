@@ -23,6 +23,7 @@ use Rattle.c62_answer.proofs.TooLong.{read_same, refuses_same, short_said, too_l
 use Rattle.c62_read.specs.Program.{most_bytes}
 use Rattle.c62_listing_reader.specs.Faults.{most_bytes as most_listing_bytes}
 use Rattle.c62_adopt_cut.specs.Text.{most_bytes as most_packets_bytes}
+use Rattle.c62_op.specs.declared.set.InstructionSet.{InstructionSet}
 
 -- a line that ends in front of more bytes, unless it ends with the input
 ended_more : (end rest more : List ℕ) → IsEnded end rest → ((end ≡ []) → more ≡ [])
@@ -72,7 +73,7 @@ module _ {input text listing : List ℕ} (cut : IsCut input text listing) where
 abbrev pub most_parted : ℕ
 most_parted = most_bytes + 5 + most_packets_bytes
 
-module _ (all : List ℕ) (n : ℕ) (enough : most_parted + 1 ≤ n) where
+module _ (isa : InstructionSet) (all : List ℕ) (n : ℕ) (enough : most_parted + 1 ≤ n) where
   -- what is left out, if anything is
   left_out : length (take n all) < n → drop n all ≡ []
   left_out less = let size = length-take n all in drop_of_length-le all (omega (arith, less, size))
@@ -136,65 +137,67 @@ module _ (all : List ℕ) (n : ℕ) (enough : most_parted + 1 ≤ n) where
 
   -- the listing says as much in the front
   same_listing : (text listing : List ℕ) → IsCut (take n all) text listing → length text ≤ most_bytes
-      → listed_in listing ≡ listed_in (listing ++ drop n all)
+      → listed_in isa listing ≡ listed_in isa (listing ++ drop n all)
   same_listing text listing cut short =
       let size = cut_length cut in
       let ends = end_length cut in
       elim (cases_lt (length (take n all)) n) [
-        | inl whole ↦ ap listed_in (sym (append-nil listing)
+        | inl whole ↦ ap (listed_in isa) (sym (append-nil listing)
             ∙ ap (λ (xs : List ℕ). listing ++ xs) (sym (left_out whole)))
         | inr full ↦
             let long : most_listing_bytes < length listing = omega (arith, size, ends, full, short, enough) in
             let more = length-append listing (drop n all) in
-            too_long_listing listing long ∙ sym (too_long_listing (listing ++ drop n all) (omega (arith, long, more)))
+            too_long_listing isa listing long
+            ∙ sym (too_long_listing isa (listing ++ drop n all) (omega (arith, long, more)))
       ]
 
   -- and so do packets as they are written
   pub same_code : (text listing : List ℕ) → IsCut (take n all) text listing → length text ≤ most_bytes
-      → code_read listing ≡ code_read (listing ++ drop n all)
+      → code_read isa listing ≡ code_read isa (listing ++ drop n all)
   same_code text listing cut short =
       let size = cut_length cut in
       let ends = end_length cut in
       elim (cases_lt (length (take n all)) n) [
-        | inl whole ↦ ap code_read (sym (append-nil listing)
+        | inl whole ↦ ap (code_read isa) (sym (append-nil listing)
             ∙ ap (λ (xs : List ℕ). listing ++ xs) (sym (left_out whole)))
         | inr full ↦
             let long : most_packets_bytes + 1 ≤ length listing = omega (arith, size, ends, full, short, enough) in
-            sym (code_read-take listing)
-            ∙ ap code_read (sym (take-append-le (most_packets_bytes + 1) listing (drop n all) long))
-            ∙ code_read-take (listing ++ drop n all)
+            sym (code_read-take isa listing)
+            ∙ ap (code_read isa) (sym (take-append-le (most_packets_bytes + 1) listing (drop n all) long))
+            ∙ code_read-take isa (listing ++ drop n all)
       ]
 
   pub says_all : (form : Form) (text listing : List ℕ) (packets : List Packed) → IsCut (take n all) text listing
       → length text ≤ most_bytes
-      → SaysPackets form listing packets → SaysPackets form (listing ++ drop n all) packets
-  says_all Listed text listing packets cut short is = read_same listing (listing ++ drop n all) packets
+      → SaysPackets isa form listing packets → SaysPackets isa form (listing ++ drop n all) packets
+  says_all Listed text listing packets cut short is = read_same isa listing (listing ++ drop n all) packets
       (same_listing text listing cut short) is
-  says_all Written text listing packets cut short is = adopted_same false listing (listing ++ drop n all) packets 0
+  says_all Written text listing packets cut short is = adopted_same isa false listing (listing ++ drop n all) packets 0
       (same_code text listing cut short) is
 
   none_all : (form : Form) (text listing message : List ℕ) → IsCut (take n all) text listing → length text ≤ most_bytes
-      → SaysNoPackets form listing message → SaysNoPackets form (listing ++ drop n all) message
+      → SaysNoPackets isa form listing message → SaysNoPackets isa form (listing ++ drop n all) message
   none_all Listed text listing message cut short is = record {
     fault = is.fault;
     known = is.known;
-    refused = refuses_same listing (listing ++ drop n all) is.fault (same_listing text listing cut short) is.refused;
+    refused = refuses_same isa listing (listing ++ drop n all) is.fault
+        (same_listing text listing cut short) is.refused;
     told = is.told;
   }
   none_all Written text listing message cut short is = record {
     fault = is.fault;
     known = is.known;
-    refused = packets_refused false listing (listing ++ drop n all) is.fault (same_code text listing cut short)
+    refused = packets_refused isa false listing (listing ++ drop n all) is.fault (same_code text listing cut short)
         is.refused;
     told = is.told;
   }
 
   -- ---- checks
 
-  unfoldable pub check_all : (form : Form) (same : Bool) (answer : List ℕ) → IsCheck form (take n all) same answer
-      → IsCheck form all same answer
+  unfoldable pub check_all : (form : Form) (same : Bool) (answer : List ℕ) → IsCheck isa form (take n all) same answer
+      → IsCheck isa form all same answer
   check_all form same answer is =
-      let short = short_said is.text is.program is.says in
+      let short = short_said isa is.text is.program is.says in
       record {
         text = is.text;
         listing = is.listing ++ drop n all;
@@ -226,17 +229,17 @@ module _ (all : List ℕ) (n : ℕ) (enough : most_parted + 1 ≤ n) where
 
   -- a text that is too long in the front is so in the whole
   long_all : (text listing message : List ℕ) → IsParted (take n all) text listing → most_bytes < length text
-      → IsNoProgram text message → IsEndless all × (message ≡ fault_message 0 TextTooLong)
+      → IsNoProgram isa text message → IsEndless all × (message ≡ fault_message 0 TextTooLong)
   long_all text listing message parted long is =
       let size = cut_length parted.cut in (
         endless_all (length text) long (omega (arith, size))
             (λ other rest cut. let least = parted.first other rest cut in omega (arith, long, least)),
         subst (λ (p : Result (List BlockParts) Refusal). IsErrAnd p (λ fault. message ≡ fault_message fault.0 fault.1))
-            (too_long text long) is,
+            (too_long isa text long) is,
       )
 
-  pub faulty_text_front : (message : List ℕ) → HasFaultyText (take n all) message
-      → (IsEndless all × (message ≡ of_text (fault_message 0 TextTooLong))) ⊎ HasFaultyText all message
+  pub faulty_text_front : (message : List ℕ) → HasFaultyText isa (take n all) message
+      → (IsEndless all × (message ≡ of_text (fault_message 0 TextTooLong))) ⊎ HasFaultyText isa all message
   faulty_text_front message is =
       elim (cases_lt most_bytes (length is.text)) [
         | inl long ↦ let endless = long_all is.text is.listing is.fault is.parted long is.refused in inl
@@ -251,16 +254,17 @@ module _ (all : List ℕ) (n : ℕ) (enough : most_parted + 1 ≤ n) where
         })
       ]
 
-  faulty_text_all : (form : Form) (message : List ℕ) → HasFaultyText (take n all) message → IsNoCheck form all message
+  faulty_text_all : (form : Form) (message : List ℕ) → HasFaultyText isa (take n all) message
+      → IsNoCheck isa form all message
   faulty_text_all form message is = elim (faulty_text_front message is) [
     | inl endless ↦ Endless endless.0 endless.1
     | inr faulty ↦ FaultyText faulty
   ]
 
-  faulty_listing_all : (form : Form) (message : List ℕ) → HasFaultyListing form (take n all) message
-      → IsNoCheck form all message
+  faulty_listing_all : (form : Form) (message : List ℕ) → HasFaultyListing isa form (take n all) message
+      → IsNoCheck isa form all message
   faulty_listing_all form message is =
-      let short = short_said is.text is.program is.says in
+      let short = short_said isa is.text is.program is.says in
       FaultyListing (record {
         text = is.text;
         listing = is.listing ++ drop n all;
@@ -275,9 +279,10 @@ module _ (all : List ℕ) (n : ℕ) (enough : most_parted + 1 ≤ n) where
   pub endless_front : IsEndless (take n all) → IsEndless all
   endless_front endless = endless_all (length (take n all)) endless.long (omega arith) endless.none
 
-  pub no_check_all : (form : Form) (message : List ℕ) → IsNoCheck form (take n all) message → IsNoCheck form all message
+  pub no_check_all : (form : Form) (message : List ℕ) → IsNoCheck isa form (take n all) message
+      → IsNoCheck isa form all message
   no_check_all form message (Endless endless told) = Endless (endless_front endless) told
-  no_check_all form message (Unparted unparted told) = subst (λ (xs : List ℕ). IsNoCheck form xs message)
+  no_check_all form message (Unparted unparted told) = subst (λ (xs : List ℕ). IsNoCheck isa form xs message)
       (taken_short unparted.short) (Unparted unparted told)
   no_check_all form message (FaultyText is) = faulty_text_all form message is
   no_check_all form message (FaultyListing is) = faulty_listing_all form message is

@@ -47,6 +47,7 @@ use Rattle.c62_answer.specs.Check.{IsCheck}
 use Rattle.c62_answer.specs.Run.{IsAnswer, added_of, drained_told, outcome_adopted, outcome_of}
 use Rattle.c62_json.specs.Document.{document}
 use Rattle.c62_json_adopt.specs.Adopted.{adopted_members}
+use Rattle.c62_op.specs.declared.set.InstructionSet.{InstructionSet}
 
 -- ---- what is told so
 
@@ -54,9 +55,9 @@ pub limit_told : (rendering : Rendering) (ask : Ask) → limit_of (rendered rend
 limit_told InText ask = refl
 limit_told InJson ask = refl
 
-module _ (ask : Ask) (text : List ℕ) where
+module _ (isa : InstructionSet) (ask : Ask) (text : List ℕ) where
   -- what a text is refused for, its document is refused for
-  pub refused_too : (f : Failure) → Gives ask text (Err f) → Gives (Document ask) text (Err f)
+  pub refused_too : (f : Failure) → Gives isa ask text (Err f) → Gives isa (Document ask) text (Err f)
   refused_too (failures.Unread fault) gives = gives
   refused_too (failures.Unlisted fault) gives = gives
   refused_too (failures.Unadopted fault) gives = gives
@@ -77,13 +78,13 @@ module _ (ask : Ask) (text : List ℕ) where
 
 -- ---- what is taken of a text
 
-module _ (ask : Ask) (name text : List ℕ) where
-  pub not_reached_document : (f : Failure) → TakesNothing name text f
-      → Gives (Document (Reaching name ask)) text (Err f)
-  not_reached_document f none = refused_too (Reaching name ask) text f (not_reached ask name text f none)
+module _ (isa : InstructionSet) (ask : Ask) (name text : List ℕ) where
+  pub not_reached_document : (f : Failure) → TakesNothing isa name text f
+      → Gives isa (Document (Reaching name ask)) text (Err f)
+  not_reached_document f none = refused_too isa (Reaching name ask) text f (not_reached isa ask name text f none)
 
-  pub reached_document : (taken : List ℕ) (result : Result Reply Failure) → IsTaken name text taken
-      → Gives (Document ask) taken result → Gives (Document (Reaching name ask)) text result
+  pub reached_document : (taken : List ℕ) (result : Result Reply Failure) → IsTaken isa name text taken
+      → Gives isa (Document ask) taken result → Gives isa (Document (Reaching name ask)) text result
   reached_document taken (Ok reply) is (told, answer, document) = (told, (taken, is, answer), document)
   reached_document taken (Err (failures.Unread fault)) is gives = inr (taken, is, gives)
   reached_document taken (Err (failures.Unlisted fault)) is gives = inr (taken, is, gives)
@@ -105,28 +106,29 @@ module _ (ask : Ask) (name text : List ℕ) where
 
 -- ---- lines
 
-module _ (trips : List (Name × ℕ)) (apart : List Reg) (text : List ℕ) (reply : Reply) (outcome : Outcome)
+module _ (isa : InstructionSet) (trips : List (Name × ℕ)) (apart : List Reg) (text : List ℕ) (reply : Reply)
+    (outcome : Outcome)
     (answer : List ℕ) (ends : outcome ≡ reply.outcome) where
   pub packed_lines : (verbose : Bool) (packing : Packing)
-      → Gives (LoopListing verbose packing trips apart) text (Ok reply)
+      → Gives isa (LoopListing verbose packing trips apart) text (Ok reply)
       → answer ≡ lines_document (codes "pack") reply.text.items
-      → (told : List ℕ) × (is : IsTextAnswer (LoopListing verbose packing trips apart) outcome text told)
-      × Documents (LoopListing verbose packing trips apart) outcome text told is answer
+      → (told : List ℕ) × (is : IsTextAnswer isa (LoopListing verbose packing trips apart) outcome text told)
+      × Documents isa (LoopListing verbose packing trips apart) outcome text told is answer
   packed_lines verbose packing gives is = (
     reply.text.items,
-    subst (λ (o : Outcome). IsTextAnswer (LoopListing verbose packing trips apart) o text reply.text.items)
+    subst (λ (o : Outcome). IsTextAnswer isa (LoopListing verbose packing trips apart) o text reply.text.items)
         (sym ends) gives,
     is,
   )
 
   pub drawn_lines : (drawing : Drawing) (packing : Packing)
-      → Gives (LoopPicture drawing packing trips apart) text (Ok reply)
+      → Gives isa (LoopPicture drawing packing trips apart) text (Ok reply)
       → answer ≡ lines_document (codes "show") reply.text.items
-      → (told : List ℕ) × (is : IsTextAnswer (LoopPicture drawing packing trips apart) outcome text told)
-      × Documents (LoopPicture drawing packing trips apart) outcome text told is answer
+      → (told : List ℕ) × (is : IsTextAnswer isa (LoopPicture drawing packing trips apart) outcome text told)
+      × Documents isa (LoopPicture drawing packing trips apart) outcome text told is answer
   drawn_lines drawing packing gives is = (
     reply.text.items,
-    subst (λ (o : Outcome). IsTextAnswer
+    subst (λ (o : Outcome). IsTextAnswer isa
         (LoopPicture drawing packing trips apart) o text reply.text.items) (sym ends) gives,
     is,
   )
@@ -143,46 +145,50 @@ checked_text program packets answer same (OtherBlocks number first told differs)
 checked_text program packets answer same (SameBlocks labels verdicts are told all) =
     (lines_from 0 verdicts, ToldSame labels verdicts are refl all)
 
-pub verdicts_documented : (form : Form) (input told answer : List ℕ) (same : Bool) (is : IsCheck form input same told)
+pub verdicts_documented : (isa : InstructionSet) (form : Form) (input told answer : List ℕ) (same : Bool)
+    (is : IsCheck isa form input same told)
     → IsCheckDocument is.program is.packets answer same
-    → IsAnswer (Document (Verdicts form)) (outcome_of same) input answer
-verdicts_documented form input told answer true is document = (told, is, document)
-verdicts_documented form input told answer false is document = (told, is, document)
+    → IsAnswer isa (Document (Verdicts form)) (outcome_of same) input answer
+verdicts_documented isa form input told answer true is document = (told, is, document)
+verdicts_documented isa form input told answer false is document = (told, is, document)
 
 -- ---- packets that are adopted
 
-pub adopted_documented : (drain : Bool) (text answer : List ℕ) (packets : List Packed) (added : ℕ) (late : Option Late)
-    → DrainsNothing text packets → IsAdopted drain text packets added → late ≡ first_late (code_cut text)
+pub adopted_documented : (isa : InstructionSet) (drain : Bool) (text answer : List ℕ) (packets : List Packed)
+    (added : ℕ) (late : Option Late)
+    → DrainsNothing isa text packets → IsAdopted isa drain text packets added → late ≡ first_late (code_cut isa text)
     → answer ≡ document (codes "adopt") (adopted_members (drained_told drain (added_of added late)) packets)
-    → IsAnswer (Document (Adoption drain)) (outcome_adopted drain (added_of added late)) text answer
-adopted_documented true text answer packets added late lacks is first said = (
+    → IsAnswer isa (Document (Adoption drain)) (outcome_adopted drain (added_of added late)) text answer
+adopted_documented isa true text answer packets added late lacks is first said = (
   listing packets,
   record { adopted = record { packets = packets; adopted = is; listed = refl }; late = first },
   said,
 )
-adopted_documented false text answer packets added late lacks is first said = (
+adopted_documented isa false text answer packets added late lacks is first said = (
   listing packets,
-  record { packets = packets; adopted = subst (IsAdopted false text packets) (lacks added is).0 is; listed = refl },
+  record { packets = packets; adopted = subst (IsAdopted isa false text packets) (lacks added is).0 is; listed = refl },
   said,
 )
 
 -- ---- loops
 
 -- a text and packets in flight were read, and this is the document of their check
-pub loops_documented : (trips : List (Name × ℕ)) (apart : List Reg) (input text listing answer : List ℕ)
+pub loops_documented : (isa : InstructionSet) (trips : List (Name × ℕ)) (apart : List Reg)
+    (input text listing answer : List ℕ)
     (program : List Serial) (read : RowsText) (same plain : Bool)
-    → IsParted input text listing → SaysProgram text program → first_loopless program trips ≡ None
-    → GivesRowsPart listing (Ok read) → IsLoopsDocument trips apart program (text_of read.rows) answer same plain
+    → IsParted input text listing → SaysProgram isa text program → first_loopless program trips ≡ None
+    → GivesRowsPart isa listing (Ok read) → IsLoopsDocument trips apart program (text_of read.rows) answer same plain
     → DocumentsHaveLines trips apart program (text_of read.rows)
-    → IsAnswer (Document (LoopVerdicts trips apart)) (outcome_of same) input answer
-loops_documented trips apart input text listing answer program read same plain parted says named flies document have =
+    → IsAnswer isa (Document (LoopVerdicts trips apart)) (outcome_of same) input answer
+loops_documented isa trips apart input text listing answer program read same plain parted says named flies document have
+    =
     let told = have answer same plain document in
     ended same
     (loop_lines_from program 0 told.judged.verdicts.items ++ rows_line told.judged.wanting) told.lines document
   where
     ended : (b : Bool) (lines : List ℕ) → AreLoopsTold trips apart program (text_of read.rows) lines b plain
         → IsLoopsDocument trips apart program (text_of read.rows) answer b plain
-        → IsAnswer (Document (LoopVerdicts trips apart)) (outcome_of b) input answer
+        → IsAnswer isa (Document (LoopVerdicts trips apart)) (outcome_of b) input answer
     ended true lines told is = (
       lines,
       record {

@@ -24,19 +24,20 @@ use Rattle.c62_answer.specs.Drawing.{drawing as drawn_so, loop_drawing}
 use Rattle.c62_answer.specs.Standing.{IsDrawn}
 use Rattle.c62_command.specs.declared.command.Showing.{Showing}
 use Rattle.c62_packet.specs.Packed.{Packed}
+use Rattle.c62_op.specs.declared.set.InstructionSet.{InstructionSet}
 
 -- as much of an input as is read under a limit
 abbrev front : ℕ → List ℕ → List ℕ
 front most all = take (most + 1) all
 
-program_front : (all : List ℕ) → program_in all ≡ program_in (front most_bytes all)
-program_front all = sym (program_all all (front most_bytes all) refl)
+program_front : (isa : InstructionSet) (all : List ℕ) → program_in isa all ≡ program_in isa (front most_bytes all)
+program_front isa all = sym (program_all isa all (front most_bytes all) refl)
 
-listed_front : (all : List ℕ) → listed_in (front most_listing_bytes all) ≡ listed_in all
-listed_front all = listed_all all (front most_listing_bytes all) refl
+listed_front : (isa : InstructionSet) (all : List ℕ) → listed_in isa (front most_listing_bytes all) ≡ listed_in isa all
+listed_front isa all = listed_all isa all (front most_listing_bytes all) refl
 
-code_front : (all : List ℕ) → code_read (front most_packets_bytes all) ≡ code_read all
-code_front all = code_all all (front most_packets_bytes all) refl
+code_front : (isa : InstructionSet) (all : List ℕ) → code_read isa (front most_packets_bytes all) ≡ code_read isa all
+code_front isa all = code_all isa all (front most_packets_bytes all) refl
 
 -- what is drawn of packets beside a text is so beside the same text
 unfoldable drawn_all : {text other : List ℕ} (showing : Showing) (packets : List Packed) (answer : List ℕ)
@@ -48,92 +49,96 @@ drawn_all showing packets answer same is = record {
 }
 
 -- the text that answers what was read answers all
-unfoldable answered_text : (ask : Ask) (outcome : Outcome) (all answer : List ℕ)
-    → IsTextAnswer ask outcome (front (limit_of ask) all) answer → IsTextAnswer ask outcome all answer
-answered_text (Listing packing) Done all answer is = record {
+unfoldable answered_text : (isa : InstructionSet) (ask : Ask) (outcome : Outcome) (all answer : List ℕ)
+    → IsTextAnswer isa ask outcome (front (limit_of ask) all) answer
+    → IsTextAnswer isa ask outcome all answer
+answered_text isa (Listing packing) Done all answer is = record {
   program = is.program;
-  says = program_front all ∙ is.says;
+  says = program_front isa all ∙ is.says;
   packets = is.packets;
   packed = is.packed;
   listed = is.listed;
 }
-answered_text (Picture showing) Done all answer is = record {
+answered_text isa (Picture showing) Done all answer is = record {
   program = is.program;
-  says = program_front all ∙ is.says;
+  says = program_front isa all ∙ is.says;
   shown = is.shown;
   packed = is.packed;
   bounded = is.bounded;
-  drawn = is.drawn ∙ ap (λ (text : List ℕ). drawn_so showing text is.shown) (whole_program all is.program is.says);
+  drawn = is.drawn ∙ ap (λ (text : List ℕ). drawn_so showing text is.shown)
+      (whole_program isa all is.program is.says);
 }
-answered_text (ListingPicture showing) Done all answer is = record {
+answered_text isa (ListingPicture showing) Done all answer is = record {
   packets = is.packets;
-  read = read_same (front most_listing_bytes all) all is.packets (listed_front all) is.read;
-  drawn = drawn_all showing is.packets answer (whole_listing all is.packets is.read) is.drawn;
+  read = read_same isa (front most_listing_bytes all) all is.packets (listed_front isa all) is.read;
+  drawn = drawn_all showing is.packets answer (whole_listing isa all is.packets is.read) is.drawn;
 }
-answered_text (PacketsPicture showing) Done all answer is = record {
+answered_text isa (PacketsPicture showing) Done all answer is = record {
   packets = is.packets;
-  adopted = adopted_same false (front most_packets_bytes all) all is.packets 0 (code_front all) is.adopted;
-  drawn = drawn_all showing is.packets answer (whole_packets all is.packets is.adopted) is.drawn;
+  adopted = adopted_same isa false (front most_packets_bytes all) all is.packets 0 (code_front isa all) is.adopted;
+  drawn = drawn_all showing is.packets answer (whole_packets isa all is.packets is.adopted) is.drawn;
 }
-answered_text (SerialReport course settings apart) outcome all answer is = record {
+answered_text isa (SerialReport course settings apart) outcome all answer is = record {
   program = is.program;
-  says = program_front all ∙ is.says;
+  says = program_front isa all ∙ is.says;
   reported = is.reported;
 }
-answered_text (PacketReport packing course settings) outcome all answer is = record {
+answered_text isa (PacketReport packing course settings) outcome all answer is = record {
   program = is.program;
-  says = program_front all ∙ is.says;
+  says = program_front isa all ∙ is.says;
   packets = is.packets;
   packed = is.packed;
   reported = is.reported;
 }
-answered_text (StandingReport Listed course settings) outcome all answer is = record {
+answered_text isa (StandingReport Listed course settings) outcome all answer is = record {
   packets = is.packets;
-  read = read_same (front most_listing_bytes all) all is.packets (listed_front all) is.read;
+  read = read_same isa (front most_listing_bytes all) all is.packets (listed_front isa all) is.read;
   reported = is.reported;
 }
-answered_text (StandingReport Written course settings) outcome all answer is = record {
+answered_text isa (StandingReport Written course settings) outcome all answer is = record {
   packets = is.packets;
-  read = adopted_same false (front most_packets_bytes all) all is.packets 0 (code_front all) is.read;
+  read = adopted_same isa false (front most_packets_bytes all) all is.packets 0 (code_front isa all) is.read;
   reported = is.reported;
 }
-answered_text (FlightReport course from settings) outcome all answer is =
-    flight_all course from settings outcome all (front most_packets_bytes all) answer refl is
-answered_text (Adoption false) Done all answer is =
-    adopted_all false 0 all (front most_packets_bytes all) answer refl is
-answered_text (Adoption true) (Drained added) all answer is =
-    drained_all added all (front most_packets_bytes all) answer refl is
-answered_text (Reaching name ask) outcome all answer is =
-    (is.0, taken_all name all (front most_packets_bytes all) is.0 refl is.1, is.2)
-answered_text (Verdicts Listed) Done all answer is = check_all all (most_parted + 1) (omega arith) Listed true answer is
-answered_text (Verdicts Listed) NotSame all answer is =
-    check_all all (most_parted + 1) (omega arith) Listed false answer is
-answered_text (Verdicts Written) Done all answer is = check_all all (most_parted + 1) (omega arith) Written true answer
+answered_text isa (FlightReport course from settings) outcome all answer is =
+    flight_all isa course from settings outcome all (front most_packets_bytes all) answer refl is
+answered_text isa (Adoption false) Done all answer is =
+    adopted_all isa false 0 all (front most_packets_bytes all) answer refl is
+answered_text isa (Adoption true) (Drained added) all answer is =
+    drained_all isa added all (front most_packets_bytes all) answer refl is
+answered_text isa (Reaching name ask) outcome all answer is =
+    (is.0, taken_all isa name all (front most_packets_bytes all) is.0 refl is.1, is.2)
+answered_text isa (Verdicts Listed) Done all answer is =
+    check_all isa all (most_parted + 1) (omega arith) Listed true answer is
+answered_text isa (Verdicts Listed) NotSame all answer is =
+    check_all isa all (most_parted + 1) (omega arith) Listed false answer is
+answered_text isa (Verdicts Written) Done all answer is =
+    check_all isa all (most_parted + 1) (omega arith) Written true answer
     is
-answered_text (Verdicts Written) NotSame all answer is =
-    check_all all (most_parted + 1) (omega arith) Written false answer is
-answered_text (LoopVerdicts trips apart) Done all answer is =
-    loop_check_all all (most_parted + 1) (omega arith) trips apart true answer is
-answered_text (LoopVerdicts trips apart) NotSame all answer is =
-    loop_check_all all (most_parted + 1) (omega arith) trips apart false answer is
-answered_text (LoopListing verbose packing trips apart) (Looped told None) all answer is = record {
+answered_text isa (Verdicts Written) NotSame all answer is =
+    check_all isa all (most_parted + 1) (omega arith) Written false answer is
+answered_text isa (LoopVerdicts trips apart) Done all answer is =
+    loop_check_all isa all (most_parted + 1) (omega arith) trips apart true answer is
+answered_text isa (LoopVerdicts trips apart) NotSame all answer is =
+    loop_check_all isa all (most_parted + 1) (omega arith) trips apart false answer is
+answered_text isa (LoopListing verbose packing trips apart) (Looped told None) all answer is = record {
   program = is.program;
   written = is.written;
-  looped = looped_all packing trips apart all (front most_bytes all) is.program is.written refl is.looped;
+  looped = looped_all isa packing trips apart all (front most_bytes all) is.program is.written refl is.looped;
   lines = is.lines;
   listed = is.listed;
 }
-answered_text (LoopPicture drawing packing trips apart) Done all answer is = record {
+answered_text isa (LoopPicture drawing packing trips apart) Done all answer is = record {
   program = is.program;
   written = is.written;
-  looped = looped_all packing trips apart all (front most_bytes all) is.program is.written refl is.looped;
+  looped = looped_all isa packing trips apart all (front most_bytes all) is.program is.written refl is.looped;
   drawn = is.drawn ∙ ap (λ (text : List ℕ). loop_drawing drawing text is.program is.written)
-      (whole_program all is.program is.looped.says);
+      (whole_program isa all is.program is.looped.says);
 }
-answered_text (LoopReport verbose packing trips apart course settings) (Looped told has) all answer is = record {
+answered_text isa (LoopReport verbose packing trips apart course settings) (Looped told has) all answer is = record {
   program = is.program;
   written = is.written;
-  looped = looped_all packing trips apart all (front most_bytes all) is.program is.written refl is.looped;
+  looped = looped_all isa packing trips apart all (front most_bytes all) is.program is.written refl is.looped;
   lines = is.lines;
   flying = is.flying;
   first = is.first;
@@ -142,72 +147,82 @@ answered_text (LoopReport verbose packing trips apart course settings) (Looped t
   flown = is.flown;
   ends = is.ends;
 }
-answered_text _ _ all answer is = absurd is
+answered_text isa _ _ all answer is = absurd is
 
 -- and so does its document
-documented : (ask : Ask) (outcome : Outcome) (all told answer : List ℕ)
-    (is : IsTextAnswer ask outcome (front (limit_of ask) all) told)
-    → Documents ask outcome (front (limit_of ask) all) told is answer
-    → Documents ask outcome all told (answered_text ask outcome all told is) answer
+documented : (isa : InstructionSet) (ask : Ask) (outcome : Outcome) (all told answer : List ℕ)
+    (is : IsTextAnswer isa ask outcome (front (limit_of ask) all) told)
+    → Documents isa ask outcome (front (limit_of ask) all) told is answer
+    → Documents isa ask outcome all told (answered_text isa ask outcome all told is) answer
 unfolding answered_text drawn_all adopted_all drained_all flight_all check_all loop_check_all
-documented (Listing packing) Done all told answer is document = document
-documented (Picture showing) Done all told answer is document = document
-documented (ListingPicture showing) Done all told answer is document = document
-documented (PacketsPicture showing) Done all told answer is document = document
-documented (SerialReport course settings apart) outcome all told answer is document = document
-documented (PacketReport packing course settings) outcome all told answer is document = document
-documented (StandingReport Listed course settings) outcome all told answer is document = document
-documented (StandingReport Written course settings) outcome all told answer is document = document
-documented (FlightReport course from settings) outcome all told answer is document = document
-documented (Adoption false) Done all told answer is document = document
-documented (Adoption true) (Drained added) all told answer is document = document
-documented (Reaching name ask) outcome all told answer is document = document
-documented (Verdicts Listed) Done all told answer is document = document
-documented (Verdicts Listed) NotSame all told answer is document = document
-documented (Verdicts Written) Done all told answer is document = document
-documented (Verdicts Written) NotSame all told answer is document = document
-documented (LoopVerdicts trips apart) Done all told answer is document = document
-documented (LoopVerdicts trips apart) NotSame all told answer is document = document
-documented (LoopListing verbose packing trips apart) outcome all told answer is document = document
-documented (LoopPicture drawing packing trips apart) outcome all told answer is document = document
-documented (LoopReport verbose packing trips apart course settings) (Looped lines has) all told answer is document =
+documented isa (Listing packing) Done all told answer is document = document
+documented isa (Picture showing) Done all told answer is document = document
+documented isa (ListingPicture showing) Done all told answer is document = document
+documented isa (PacketsPicture showing) Done all told answer is document = document
+documented isa (SerialReport course settings apart) outcome all told answer is document = document
+documented isa (PacketReport packing course settings) outcome all told answer is document = document
+documented isa (StandingReport Listed course settings) outcome all told answer is document = document
+documented isa (StandingReport Written course settings) outcome all told answer is document = document
+documented isa (FlightReport course from settings) outcome all told answer is document = document
+documented isa (Adoption false) Done all told answer is document = document
+documented isa (Adoption true) (Drained added) all told answer is document = document
+documented isa (Reaching name ask) outcome all told answer is document = document
+documented isa (Verdicts Listed) Done all told answer is document = document
+documented isa (Verdicts Listed) NotSame all told answer is document = document
+documented isa (Verdicts Written) Done all told answer is document = document
+documented isa (Verdicts Written) NotSame all told answer is document = document
+documented isa (LoopVerdicts trips apart) Done all told answer is document = document
+documented isa (LoopVerdicts trips apart) NotSame all told answer is document = document
+documented isa (LoopListing verbose packing trips apart) outcome all told answer is document = document
+documented isa (LoopPicture drawing packing trips apart) outcome all told answer is document = document
+documented isa (LoopReport verbose packing trips apart course settings) (Looped lines has) all told answer is document =
     document
-documented _ _ all told answer is document = absurd document
+documented isa _ _ all told answer is document = absurd document
 
 -- the same, of what was read as far as the limit
-plain : (ask : Ask) (outcome : Outcome) (all text answer : List ℕ) → text ≡ take (limit_of ask + 1) all
-    → IsTextAnswer ask outcome text answer → IsTextAnswer ask outcome all answer
-plain ask outcome all text answer read is =
-    answered_text ask outcome all answer (subst (λ (t : List ℕ). IsTextAnswer ask outcome t answer) read is)
+plain : (isa : InstructionSet) (ask : Ask) (outcome : Outcome) (all text answer : List ℕ)
+    → text ≡ take (limit_of ask + 1) all
+    → IsTextAnswer isa ask outcome text answer → IsTextAnswer isa ask outcome all answer
+plain isa ask outcome all text answer read is =
+    answered_text isa ask outcome all answer (subst (λ (t : List ℕ). IsTextAnswer isa ask outcome t answer) read is)
 
 -- the answer to what was read is the answer to all
-pub answered : (ask : Ask) (outcome : Outcome) (all text answer : List ℕ) → text ≡ take (limit_of ask + 1) all
-    → IsAnswer ask outcome text answer → IsAnswer ask outcome all answer
-answered (Document ask) outcome all text answer read is =
-    let moved = subst (λ (t : List ℕ). IsAnswer (Document ask) outcome t answer) read is in
-    (moved.0, answered_text ask outcome all moved.0 moved.1, documented ask outcome all moved.0 answer moved.1 moved.2)
-answered (Reaching name ask) outcome all text answer read is = (is.0, taken_all name all text is.0 read is.1, is.2)
-answered (Listing packing) outcome all text answer read is = plain (Listing packing) outcome all text answer read is
-answered (Picture showing) outcome all text answer read is = plain (Picture showing) outcome all text answer read is
-answered (ListingPicture showing) outcome all text answer read is =
-    plain (ListingPicture showing) outcome all text answer read is
-answered (PacketsPicture showing) outcome all text answer read is =
-    plain (PacketsPicture showing) outcome all text answer read is
-answered (SerialReport course settings apart) outcome all text answer read is =
-    plain (SerialReport course settings apart) outcome all text answer read is
-answered (PacketReport packing course settings) outcome all text answer read is =
-    plain (PacketReport packing course settings) outcome all text answer read is
-answered (StandingReport form course settings) outcome all text answer read is =
-    plain (StandingReport form course settings) outcome all text answer read is
-answered (FlightReport course from settings) outcome all text answer read is =
-    plain (FlightReport course from settings) outcome all text answer read is
-answered (Adoption drain) outcome all text answer read is = plain (Adoption drain) outcome all text answer read is
-answered (Verdicts form) outcome all text answer read is = plain (Verdicts form) outcome all text answer read is
-answered (LoopVerdicts trips apart) outcome all text answer read is =
-    plain (LoopVerdicts trips apart) outcome all text answer read is
-answered (LoopListing verbose packing trips apart) outcome all text answer read is =
-    plain (LoopListing verbose packing trips apart) outcome all text answer read is
-answered (LoopPicture drawing packing trips apart) outcome all text answer read is =
-    plain (LoopPicture drawing packing trips apart) outcome all text answer read is
-answered (LoopReport verbose packing trips apart course settings) outcome all text answer read is =
-    plain (LoopReport verbose packing trips apart course settings) outcome all text answer read is
+pub answered : (isa : InstructionSet) (ask : Ask) (outcome : Outcome) (all text answer : List ℕ)
+    → text ≡ take (limit_of ask + 1) all
+    → IsAnswer isa ask outcome text answer → IsAnswer isa ask outcome all answer
+answered isa (Document ask) outcome all text answer read is =
+    let moved = subst (λ (t : List ℕ). IsAnswer isa (Document ask) outcome t answer) read is in (
+      moved.0,
+      answered_text isa ask outcome all moved.0 moved.1,
+      documented isa ask outcome all moved.0 answer moved.1
+          moved.2,
+    )
+answered isa (Reaching name ask) outcome all text answer read is =
+    (is.0, taken_all isa name all text is.0 read is.1, is.2)
+answered isa (Listing packing) outcome all text answer read is =
+    plain isa (Listing packing) outcome all text answer read is
+answered isa (Picture showing) outcome all text answer read is =
+    plain isa (Picture showing) outcome all text answer read is
+answered isa (ListingPicture showing) outcome all text answer read is =
+    plain isa (ListingPicture showing) outcome all text answer read is
+answered isa (PacketsPicture showing) outcome all text answer read is =
+    plain isa (PacketsPicture showing) outcome all text answer read is
+answered isa (SerialReport course settings apart) outcome all text answer read is =
+    plain isa (SerialReport course settings apart) outcome all text answer read is
+answered isa (PacketReport packing course settings) outcome all text answer read is =
+    plain isa (PacketReport packing course settings) outcome all text answer read is
+answered isa (StandingReport form course settings) outcome all text answer read is =
+    plain isa (StandingReport form course settings) outcome all text answer read is
+answered isa (FlightReport course from settings) outcome all text answer read is =
+    plain isa (FlightReport course from settings) outcome all text answer read is
+answered isa (Adoption drain) outcome all text answer read is =
+    plain isa (Adoption drain) outcome all text answer read is
+answered isa (Verdicts form) outcome all text answer read is = plain isa (Verdicts form) outcome all text answer read is
+answered isa (LoopVerdicts trips apart) outcome all text answer read is =
+    plain isa (LoopVerdicts trips apart) outcome all text answer read is
+answered isa (LoopListing verbose packing trips apart) outcome all text answer read is =
+    plain isa (LoopListing verbose packing trips apart) outcome all text answer read is
+answered isa (LoopPicture drawing packing trips apart) outcome all text answer read is =
+    plain isa (LoopPicture drawing packing trips apart) outcome all text answer read is
+answered isa (LoopReport verbose packing trips apart course settings) outcome all text answer read is =
+    plain isa (LoopReport verbose packing trips apart course settings) outcome all text answer read is

@@ -38,152 +38,174 @@ use Rattle.c62_answer.proofs.TooLong.{refuses_same, too_long, too_long_listing}
 use Rattle.c62_read.specs.Program.{most_bytes}
 use Rattle.c62_listing_reader.specs.Faults.{most_bytes as most_listing_bytes}
 use Rattle.c62_adopt_cut.specs.Text.{most_bytes as most_packets_bytes}
+use Rattle.c62_op.specs.declared.set.InstructionSet.{InstructionSet}
 
-pub program_in-take : (all : List ℕ) → program_in (take (most_bytes + 1) all) ≡ program_in all
-program_in-take all =
+pub program_in-take : (isa : InstructionSet) (all : List ℕ)
+    → program_in isa (take (most_bytes + 1) all) ≡ program_in isa all
+program_in-take isa all =
     elim (cases_lt most_bytes (length all)) [
-      | inl long ↦ too_long (take (most_bytes + 1) all) (omega (arith, length-take (most_bytes + 1) all))
-          ∙ sym (too_long all long)
-      | inr short ↦ ap program_in (take_all (most_bytes + 1) all (omega arith))
+      | inl long ↦ too_long isa (take (most_bytes + 1) all) (omega (arith, length-take (most_bytes + 1) all))
+          ∙ sym (too_long isa all long)
+      | inr short ↦ ap (program_in isa) (take_all (most_bytes + 1) all (omega arith))
     ]
 
-pub listed_in-take : (all : List ℕ) → listed_in (take (most_listing_bytes + 1) all) ≡ listed_in all
-listed_in-take all =
+pub listed_in-take : (isa : InstructionSet) (all : List ℕ)
+    → listed_in isa (take (most_listing_bytes + 1) all) ≡ listed_in isa all
+listed_in-take isa all =
     elim (cases_lt most_listing_bytes (length all)) [
       | inl long ↦
-          too_long_listing (take (most_listing_bytes + 1) all) (omega (arith, length-take (most_listing_bytes + 1) all))
-          ∙ sym (too_long_listing all long)
-      | inr short ↦ ap listed_in (take_all (most_listing_bytes + 1) all (omega arith))
+          too_long_listing isa (take (most_listing_bytes + 1) all)
+          (omega (arith, length-take (most_listing_bytes + 1) all))
+          ∙ sym (too_long_listing isa all long)
+      | inr short ↦ ap (listed_in isa) (take_all (most_listing_bytes + 1) all (omega arith))
     ]
 
 -- what a part that tells enough says is what all says
-pub program_all : (all text : List ℕ) → text ≡ take (most_bytes + 1) all → program_in text ≡ program_in all
-program_all all text read = ap program_in read ∙ program_in-take all
+pub program_all : (isa : InstructionSet) (all text : List ℕ) → text ≡ take (most_bytes + 1) all
+    → program_in isa text ≡ program_in isa all
+program_all isa all text read = ap (program_in isa) read ∙ program_in-take isa all
 
-pub listed_all : (all text : List ℕ) → text ≡ take (most_listing_bytes + 1) all → listed_in text ≡ listed_in all
-listed_all all text read = ap listed_in read ∙ listed_in-take all
+pub listed_all : (isa : InstructionSet) (all text : List ℕ) → text ≡ take (most_listing_bytes + 1) all
+    → listed_in isa text ≡ listed_in isa all
+listed_all isa all text read = ap (listed_in isa) read ∙ listed_in-take isa all
 
-pub code_all : (all text : List ℕ) → text ≡ take (most_packets_bytes + 1) all → code_read text ≡ code_read all
-code_all all text read = ap code_read read ∙ code_read-take all
+pub code_all : (isa : InstructionSet) (all text : List ℕ) → text ≡ take (most_packets_bytes + 1) all
+    → code_read isa text ≡ code_read isa all
+code_all isa all text read = ap (code_read isa) read ∙ code_read-take isa all
 
-unfoldable pub adopted_all : (drain : Bool) (added : ℕ) (all text answer : List ℕ)
+unfoldable pub adopted_all : (isa : InstructionSet) (drain : Bool) (added : ℕ) (all text answer : List ℕ)
     → text ≡ take (most_packets_bytes + 1) all
-    → IsAdoptedText drain added text answer → IsAdoptedText drain added all answer
-adopted_all drain added all text answer read is = record {
+    → IsAdoptedText isa drain added text answer → IsAdoptedText isa drain added all answer
+adopted_all isa drain added all text answer read is = record {
   packets = is.packets;
-  adopted = adopted_same drain text all is.packets added (code_all all text read) is.adopted;
+  adopted = adopted_same isa drain text all is.packets added (code_all isa all text read) is.adopted;
   listed = is.listed;
 }
 
-unfoldable pub drained_all : (added : Added) (all text answer : List ℕ) → text ≡ take (most_packets_bytes + 1) all
-    → IsDrainedText added text answer
-    → IsDrainedText added all answer
-drained_all added all text answer read is = record {
-  adopted = adopted_all true added.cycles all text answer read is.adopted;
-  late = is.late ∙ ap (λ (code : Result (List ℕ) CodeRefusal). first_late (text_cut (code_in code)))
-      (code_all all text read);
+unfoldable pub drained_all : (isa : InstructionSet) (added : Added) (all text answer : List ℕ)
+    → text ≡ take (most_packets_bytes + 1) all
+    → IsDrainedText isa added text answer
+    → IsDrainedText isa added all answer
+drained_all isa added all text answer read is = record {
+  adopted = adopted_all isa true added.cycles all text answer read is.adopted;
+  late = is.late ∙ ap (λ (code : Result (List ℕ) CodeRefusal). first_late (text_cut isa (code_in code)))
+      (code_all isa all text read);
 }
 
-no_packets_all : (drain : Bool) (all text message : List ℕ) → text ≡ take (most_packets_bytes + 1) all
-    → IsNoPackets drain text message
-    → IsNoPackets drain all message
-no_packets_all drain all text message read is = record {
+no_packets_all : (isa : InstructionSet) (drain : Bool) (all text message : List ℕ)
+    → text ≡ take (most_packets_bytes + 1) all
+    → IsNoPackets isa drain text message
+    → IsNoPackets isa drain all message
+no_packets_all isa drain all text message read is = record {
   fault = is.fault;
   known = is.known;
-  refused = packets_refused drain text all is.fault (code_all all text read) is.refused;
+  refused = packets_refused isa drain text all is.fault (code_all isa all text read) is.refused;
   told = is.told;
 }
 
 -- a listing and packets as they are written may be as long
-unchecked_all : (form : Form) (all text message : List ℕ) → text ≡ take (limit_of (Verdicts form) + 1) all
-    → IsNoCheck form text message → IsNoCheck form all message
-unchecked_all Listed all text message read is = no_check_all all (most_parted + 1) (omega arith) Listed message
-    (subst (λ (xs : List ℕ). IsNoCheck Listed xs message) read is)
-unchecked_all Written all text message read is = no_check_all all (most_parted + 1) (omega arith) Written message
-    (subst (λ (xs : List ℕ). IsNoCheck Written xs message) read is)
+unchecked_all : (isa : InstructionSet) (form : Form) (all text message : List ℕ)
+    → text ≡ take (limit_of (Verdicts form) + 1) all
+    → IsNoCheck isa form text message → IsNoCheck isa form all message
+unchecked_all isa Listed all text message read is = no_check_all isa all (most_parted + 1) (omega arith) Listed message
+    (subst (λ (xs : List ℕ). IsNoCheck isa Listed xs message) read is)
+unchecked_all isa Written all text message read is =
+    no_check_all isa all (most_parted + 1) (omega arith) Written message
+    (subst (λ (xs : List ℕ). IsNoCheck isa Written xs message) read is)
 
-loops_unchecked_all : (trips : List (Text × ℕ)) (all text message : List ℕ) → text ≡ take (most_parted + 1) all
-    → IsNoLoopCheck trips text message → IsNoLoopCheck trips all message
-loops_unchecked_all trips all text message read is =
-    no_loop_check_all all (most_parted + 1) (omega arith) trips message
-    (subst (λ (xs : List ℕ). IsNoLoopCheck trips xs message) read is)
+loops_unchecked_all : (isa : InstructionSet) (trips : List (Text × ℕ)) (all text message : List ℕ)
+    → text ≡ take (most_parted + 1) all
+    → IsNoLoopCheck isa trips text message → IsNoLoopCheck isa trips all message
+loops_unchecked_all isa trips all text message read is =
+    no_loop_check_all isa all (most_parted + 1) (omega arith) trips message
+    (subst (λ (xs : List ℕ). IsNoLoopCheck isa trips xs message) read is)
 
-pub looped_all : (packing : Packing) (trips : List (Text × ℕ)) (apart : List Reg) (all text : List ℕ)
+pub looped_all : (isa : InstructionSet) (packing : Packing) (trips : List (Text × ℕ)) (apart : List Reg)
+    (all text : List ℕ)
     (program : List Serial) (written : Pipelining)
-    → text ≡ take (most_bytes + 1) all → IsLooped packing trips apart text program written
-    → IsLooped packing trips apart all program written
-looped_all packing trips apart all text program written read is = record {
-  says = sym (program_all all text read) ∙ is.says;
+    → text ≡ take (most_bytes + 1) all → IsLooped isa packing trips apart text program written
+    → IsLooped isa packing trips apart all program written
+looped_all isa packing trips apart all text program written read is = record {
+  says = sym (program_all isa all text read) ∙ is.says;
   named = is.named;
   own = is.own;
   packed = is.packed;
   is = is.is;
 }
 
-no_program_all : (all text message : List ℕ) → text ≡ take (most_bytes + 1) all → IsNoProgram text message
-    → IsNoProgram all message
-no_program_all all text message read is =
+no_program_all : (isa : InstructionSet) (all text message : List ℕ) → text ≡ take (most_bytes + 1) all
+    → IsNoProgram isa text message
+    → IsNoProgram isa all message
+no_program_all isa all text message read is =
     subst (λ (p : Result (List BlockParts) Refusal). IsErrAnd p (λ fault. message ≡ fault_message fault.0 fault.1))
-    (program_all all text read) is
+    (program_all isa all text read) is
 
-no_listing_all : (all text message : List ℕ) → text ≡ take (most_listing_bytes + 1) all → IsNoListing text message
-    → IsNoListing all message
-no_listing_all all text message read is = record {
+no_listing_all : (isa : InstructionSet) (all text message : List ℕ) → text ≡ take (most_listing_bytes + 1) all
+    → IsNoListing isa text message
+    → IsNoListing isa all message
+no_listing_all isa all text message read is = record {
   fault = is.fault;
   known = is.known;
-  refused = refuses_same text all is.fault (listed_all all text read) is.refused;
+  refused = refuses_same isa text all is.fault (listed_all isa all text read) is.refused;
   told = is.told;
 }
 
-unlooped_all : (trips : List (Text × ℕ)) (all text message : List ℕ) → text ≡ take (most_bytes + 1) all
-    → IsUnlooped trips text message → IsUnlooped trips all message
-unlooped_all trips all text message read (inl none) = inl (no_program_all all text message read none)
-unlooped_all trips all text message read (inr is) = inr (record {
+unlooped_all : (isa : InstructionSet) (trips : List (Text × ℕ)) (all text message : List ℕ)
+    → text ≡ take (most_bytes + 1) all
+    → IsUnlooped isa trips text message → IsUnlooped isa trips all message
+unlooped_all isa trips all text message read (inl none) = inl (no_program_all isa all text message read none)
+unlooped_all isa trips all text message read (inr is) = inr (record {
   program = is.program;
-  says = sym (program_all all text read) ∙ is.says;
+  says = sym (program_all isa all text read) ∙ is.says;
   number = is.number;
   first = is.first;
   told = is.told;
 })
 
-refused_all : (ask : Ask) (all text message : List ℕ) → text ≡ take (limit_of ask + 1) all
-    → IsRefusedText ask text message → IsRefusedText ask all message
-refused_all (Listing packing) all text message read is = no_program_all all text message read is
-refused_all (Picture showing) all text message read is = no_program_all all text message read is
-refused_all (SerialReport course settings apart) all text message read is = no_program_all all text message read is
-refused_all (PacketReport packing course settings) all text message read is = no_program_all all text message read is
-refused_all (StandingReport Listed course settings) all text message read is = no_listing_all all text message read is
-refused_all (StandingReport Written course settings) all text message read is = no_packets_all false all text message
+refused_all : (isa : InstructionSet) (ask : Ask) (all text message : List ℕ) → text ≡ take (limit_of ask + 1) all
+    → IsRefusedText isa ask text message → IsRefusedText isa ask all message
+refused_all isa (Listing packing) all text message read is = no_program_all isa all text message read is
+refused_all isa (Picture showing) all text message read is = no_program_all isa all text message read is
+refused_all isa (SerialReport course settings apart) all text message read is =
+    no_program_all isa all text message read is
+refused_all isa (PacketReport packing course settings) all text message read is =
+    no_program_all isa all text message read is
+refused_all isa (StandingReport Listed course settings) all text message read is =
+    no_listing_all isa all text message read is
+refused_all isa (StandingReport Written course settings) all text message read is =
+    no_packets_all isa false all text message
     read is
-refused_all (ListingPicture showing) all text message read is = no_listing_all all text message read is
-refused_all (PacketsPicture showing) all text message read is = no_packets_all false all text message read is
-refused_all (FlightReport course from settings) all text message read is = no_flight_all from all text message read is
-refused_all (Adoption drain) all text message read is = no_packets_all drain all text message read is
-refused_all (Document ask) all text message read is = refused_all ask all text message read is
-refused_all (Reaching name ask) all text message read (inl none) = inl
-    (record { lacks = lacks_all name all text read none.lacks; told = none.told })
-refused_all (Reaching name ask) all text message read (inr is) = inr
-    (is.0, taken_all name all text is.0 read is.1, is.2)
-refused_all (Verdicts form) all text message read is = unchecked_all form all text message read is
-refused_all (LoopVerdicts trips apart) all text message read is = loops_unchecked_all trips all text message read is
-refused_all (LoopListing verbose packing trips apart) all text message read is =
-    unlooped_all trips all text message read is
-refused_all (LoopPicture drawing packing trips apart) all text message read is =
-    unlooped_all trips all text message read is
-refused_all (LoopReport verbose packing trips apart course settings) all text message read (inl is) =
-    inl (unlooped_all trips all text message read is)
-refused_all (LoopReport verbose packing trips apart course settings) all text message read (inr is) = inr (record {
+refused_all isa (ListingPicture showing) all text message read is = no_listing_all isa all text message read is
+refused_all isa (PacketsPicture showing) all text message read is = no_packets_all isa false all text message read is
+refused_all isa (FlightReport course from settings) all text message read is =
+    no_flight_all isa from all text message read is
+refused_all isa (Adoption drain) all text message read is = no_packets_all isa drain all text message read is
+refused_all isa (Document ask) all text message read is = refused_all isa ask all text message read is
+refused_all isa (Reaching name ask) all text message read (inl none) = inl
+    (record { lacks = lacks_all isa name all text read none.lacks; told = none.told })
+refused_all isa (Reaching name ask) all text message read (inr is) = inr
+    (is.0, taken_all isa name all text is.0 read is.1, is.2)
+refused_all isa (Verdicts form) all text message read is = unchecked_all isa form all text message read is
+refused_all isa (LoopVerdicts trips apart) all text message read is =
+    loops_unchecked_all isa trips all text message read is
+refused_all isa (LoopListing verbose packing trips apart) all text message read is =
+    unlooped_all isa trips all text message read is
+refused_all isa (LoopPicture drawing packing trips apart) all text message read is =
+    unlooped_all isa trips all text message read is
+refused_all isa (LoopReport verbose packing trips apart course settings) all text message read (inl is) =
+    inl (unlooped_all isa trips all text message read is)
+refused_all isa (LoopReport verbose packing trips apart course settings) all text message read (inr is) = inr (record {
   program = is.program;
   written = is.written;
-  looped = looped_all packing trips apart all text is.program is.written read is.looped;
+  looped = looped_all isa packing trips apart all text is.program is.written read is.looped;
   fault = is.fault;
   known = is.known;
   refused = is.refused;
   told = is.told;
 })
 
-pub refused : (ask : Ask) (known : Option (List ℕ)) (text message : List ℕ)
-    → IfSome known (λ all. text ≡ take (limit_of ask + 1) all) → IsRefusedText ask text message
-    → IsRefused ask known message
-refused ask None text message read is = tt
-refused ask (Some all) text message read is = refused_all ask all text message read is
+pub refused : (isa : InstructionSet) (ask : Ask) (known : Option (List ℕ)) (text message : List ℕ)
+    → IfSome known (λ all. text ≡ take (limit_of ask + 1) all) → IsRefusedText isa ask text message
+    → IsRefused isa ask known message
+refused isa ask None text message read is = tt
+refused isa ask (Some all) text message read is = refused_all isa ask all text message read is

@@ -14,17 +14,20 @@ use Rattle.c62_answer.specs.declared.failure.Failure.TheVariants as failures
 use Rattle.c62_answer.specs.Message.{adopt_message, list_message}
 use Rattle.c62_answer.specs.Texts.{SaysNoPackets}
 use Rattle.c62_answer.specs.Run.{Gives, GivesPackets, IsRefusedText}
+use Rattle.c62_op.specs.declared.set.InstructionSet.{InstructionSet}
 
 -- a text that is adopted as it stands lacks no cycle
-pub adopted_stands : (text : List ℕ) (packets : List Packed) (added : ℕ) → DrainsNothing text packets
-    → IsAdopted false text packets added
-    → IsAdopted false text packets 0
-adopted_stands text packets added lacks is = subst (IsAdopted false text packets) (lacks added is).0 is
+pub adopted_stands : (isa : InstructionSet) (text : List ℕ) (packets : List Packed) (added : ℕ)
+    → DrainsNothing isa text packets
+    → IsAdopted isa false text packets added
+    → IsAdopted isa false text packets 0
+adopted_stands isa text packets added lacks is = subst (IsAdopted isa false text packets) (lacks added is).0 is
 
 -- where it says no packets, that is the answer
-module _ (form : Form) (ask : Ask) (text : List ℕ) (same : (message : List ℕ) → SaysNoPackets form text message
-    → IsRefusedText ask text message) where
-  none_given : (f : Failure) → GivesPackets form text (Err f) → Gives ask text (Err f)
+module _ (isa : InstructionSet) (form : Form) (ask : Ask) (text : List ℕ)
+    (same : (message : List ℕ) → SaysNoPackets isa form text message
+    → IsRefusedText isa ask text message) where
+  none_given : (f : Failure) → GivesPackets isa form text (Err f) → Gives isa ask text (Err f)
   none_given (failures.Unread fault) gives = absurd gives
   none_given (failures.Unlisted fault) gives = same (list_message fault) gives
   none_given (failures.Unadopted fault) gives = same (adopt_message fault) gives
@@ -43,16 +46,21 @@ module _ (form : Form) (ask : Ask) (text : List ℕ) (same : (message : List ℕ
   none_given failures.Input gives = absurd gives
   none_given failures.Output gives = absurd gives
 
-pub no_report : (form : Form) (course : Course) (settings : List Setting) (text : List ℕ) (f : Failure)
-    → GivesPackets form text (Err f)
-    → Gives (StandingReport form course settings) text (Err f)
-no_report form course settings text f gives = none_given form (StandingReport form course settings) text
+pub no_report : (isa : InstructionSet) (form : Form) (course : Course) (settings : List Setting) (text : List ℕ)
+    (f : Failure)
+    → GivesPackets isa form text (Err f)
+    → Gives isa (StandingReport form course settings) text (Err f)
+no_report isa form course settings text f gives = none_given isa form (StandingReport form course settings) text
     (λ message is. is) f gives
 
-pub no_listing_picture : (showing : Showing) (text : List ℕ) (f : Failure) → GivesPackets Listed text (Err f)
-    → Gives (ListingPicture showing) text (Err f)
-no_listing_picture showing text f gives = none_given Listed (ListingPicture showing) text (λ message is. is) f gives
+pub no_listing_picture : (isa : InstructionSet) (showing : Showing) (text : List ℕ) (f : Failure)
+    → GivesPackets isa Listed text (Err f)
+    → Gives isa (ListingPicture showing) text (Err f)
+no_listing_picture isa showing text f gives =
+    none_given isa Listed (ListingPicture showing) text (λ message is. is) f gives
 
-pub no_packets_picture : (showing : Showing) (text : List ℕ) (f : Failure) → GivesPackets Written text (Err f)
-    → Gives (PacketsPicture showing) text (Err f)
-no_packets_picture showing text f gives = none_given Written (PacketsPicture showing) text (λ message is. is) f gives
+pub no_packets_picture : (isa : InstructionSet) (showing : Showing) (text : List ℕ) (f : Failure)
+    → GivesPackets isa Written text (Err f)
+    → Gives isa (PacketsPicture showing) text (Err f)
+no_packets_picture isa showing text f gives =
+    none_given isa Written (PacketsPicture showing) text (λ message is. is) f gives

@@ -1,4 +1,5 @@
 pub mod Schedules
+mod Within
 pub mod SideBySide
 pub mod Answering
 pub mod Given

@@ -20,21 +20,24 @@ use Rattle.c62_answer.specs.LoopCheck.{IsLoopCheck, IsNoLoopCheck}
 use Rattle.c62_answer.specs.LoopCheck.IsNoLoopCheck.{Endless, FaultyRows, FaultyText, NoLoop, Unparted}
 use Rattle.c62_answer.specs.Run.{Gives, GivesRowsPart, GivesTextPart, IsAnswer, outcome_of}
 use Rattle.c62_read.specs.Program.{most_bytes}
+use Rattle.c62_op.specs.declared.set.InstructionSet.{InstructionSet}
 
 -- no line parts the input
-pub endless : (trips : List (Name × ℕ)) (input : List ℕ) → HasNoParting input → most_bytes < length input
-    → IsNoLoopCheck trips input (of_text (fault_message 0 TextTooLong))
-endless trips input none long = Endless
+pub endless : (isa : InstructionSet) (trips : List (Name × ℕ)) (input : List ℕ) → HasNoParting input
+    → most_bytes < length input
+    → IsNoLoopCheck isa trips input (of_text (fault_message 0 TextTooLong))
+endless isa trips input none long = Endless
     (record { long = long; none = λ text listing cut. absurd (none text listing cut) }) refl
 
-pub unparted : (trips : List (Name × ℕ)) (input : List ℕ) → HasNoParting input → length input ≤ most_bytes
-    → IsNoLoopCheck trips input no_listing
-unparted trips input none short = Unparted (record { short = short; none = none }) refl
+pub unparted : (isa : InstructionSet) (trips : List (Name × ℕ)) (input : List ℕ) → HasNoParting input
+    → length input ≤ most_bytes
+    → IsNoLoopCheck isa trips input no_listing
+unparted isa trips input none short = Unparted (record { short = short; none = none }) refl
 
-module _ (trips : List (Name × ℕ)) (apart : List Reg) (input text listing : List ℕ)
+module _ (isa : InstructionSet) (trips : List (Name × ℕ)) (apart : List Reg) (input text listing : List ℕ)
     (parted : IsParted input text listing) where
   -- no program was read
-  pub no_text : (f : Failure) → GivesTextPart text (Err f) → Gives (LoopVerdicts trips apart) input (Err f)
+  pub no_text : (f : Failure) → GivesTextPart isa text (Err f) → Gives isa (LoopVerdicts trips apart) input (Err f)
   no_text (failures.Unread fault) gives = absurd gives
   no_text (failures.Unlisted fault) gives = absurd gives
   no_text (failures.Unadopted fault) gives = absurd gives
@@ -61,10 +64,10 @@ module _ (trips : List (Name × ℕ)) (apart : List Reg) (input text listing : L
   no_text failures.Input gives = absurd gives
   no_text failures.Output gives = absurd gives
 
-  module _ (program : List Serial) (says : SaysProgram text program) where
+  module _ (program : List Serial) (says : SaysProgram isa text program) where
     -- a label is no loop's
     pub no_loop_named : (number : ℕ) → first_loopless program trips ≡ Some number
-        → Gives (LoopVerdicts trips apart) input (Err (failures.NoLoop number))
+        → Gives isa (LoopVerdicts trips apart) input (Err (failures.NoLoop number))
     no_loop_named number first = NoLoop (record {
       text = text;
       listing = listing;
@@ -77,8 +80,8 @@ module _ (trips : List (Name × ℕ)) (apart : List Reg) (input text listing : L
     })
 
     -- a program was read, and no packets
-    pub no_rows : first_loopless program trips ≡ None → (f : Failure) → GivesRowsPart listing (Err f)
-        → Gives (LoopVerdicts trips apart) input (Err f)
+    pub no_rows : first_loopless program trips ≡ None → (f : Failure) → GivesRowsPart isa listing (Err f)
+        → Gives isa (LoopVerdicts trips apart) input (Err f)
     no_rows named (failures.Unread fault) gives = absurd gives
     no_rows named (failures.Unlisted fault) gives = absurd gives
     no_rows named (failures.Unadopted fault) gives = absurd gives
@@ -120,14 +123,15 @@ module _ (trips : List (Name × ℕ)) (apart : List Reg) (input text listing : L
     no_rows named failures.Output gives = absurd gives
 
 -- both were read, and this is told of them
-pub loops_told : (trips : List (Name × ℕ)) (apart : List Reg) (input text listing answer : List ℕ)
+pub loops_told : (isa : InstructionSet) (trips : List (Name × ℕ)) (apart : List Reg)
+    (input text listing answer : List ℕ)
     (program : List Serial) (read : RowsText) (same plain : Bool) (outcome : Outcome)
-    → IsParted input text listing → SaysProgram text program → first_loopless program trips ≡ None
-    → GivesRowsPart listing (Ok read)
+    → IsParted input text listing → SaysProgram isa text program → first_loopless program trips ≡ None
+    → GivesRowsPart isa listing (Ok read)
     → AreLoopsTold trips apart program (text_of read.rows) answer same plain → outcome ≡ outcome_of same
-    → IsAnswer (LoopVerdicts trips apart) outcome input answer
-loops_told trips apart input text listing answer program read same plain outcome parted says named flies told ends =
-    subst (λ (o : Outcome). IsAnswer (LoopVerdicts trips apart) o input answer) (sym ends) (ended same (record {
+    → IsAnswer isa (LoopVerdicts trips apart) outcome input answer
+loops_told isa trips apart input text listing answer program read same plain outcome parted says named flies told ends =
+    subst (λ (o : Outcome). IsAnswer isa (LoopVerdicts trips apart) o input answer) (sym ends) (ended same (record {
       text = text;
       listing = listing;
       parted = parted;
@@ -142,7 +146,7 @@ loops_told trips apart input text listing answer program read same plain outcome
           (subst (λ (b : Bool). AreLoopsTold trips apart program (text_of read.rows) answer b plain) all told);
     }))
   where
-    ended : (b : Bool) → IsLoopCheck trips apart input b answer
-        → IsAnswer (LoopVerdicts trips apart) (outcome_of b) input answer
+    ended : (b : Bool) → IsLoopCheck isa trips apart input b answer
+        → IsAnswer isa (LoopVerdicts trips apart) (outcome_of b) input answer
     ended true is = is
     ended false is = is

@@ -27,10 +27,11 @@ use Rattle.c62_answer.specs.Run.{RefusesLooped, breach_of}
 use Rattle.c62_answer.specs.Schedule.{AreScheduled}
 use Rattle.c62_answer.specs.Texts.{SaysProgram}
 use Rattle.c62_answer.proofs.OneText.{one_program}
+use Rattle.c62_op.specs.declared.set.InstructionSet.{InstructionSet}
 
-module _ (trips : List (Name × ℕ)) (text : List ℕ) where
+module _ (isa : InstructionSet) (trips : List (Name × ℕ)) (text : List ℕ) where
   -- no program was read
-  pub unread_loops : (f : Failure) → GivesProgram text (Err f) → RefusesLooped trips text f
+  pub unread_loops : (f : Failure) → GivesProgram isa text (Err f) → RefusesLooped isa trips text f
   unread_loops (failures.Unread fault) gives = inl gives
   unread_loops (failures.Unlisted fault) gives = absurd gives
   unread_loops (failures.Unadopted fault) gives = absurd gives
@@ -50,14 +51,15 @@ module _ (trips : List (Name × ℕ)) (text : List ℕ) where
   unread_loops failures.Output gives = absurd gives
 
   -- a label is no loop's
-  pub loopless : (program : List Serial) (number : ℕ) → SaysProgram text program
-      → first_loopless program trips ≡ Some number → RefusesLooped trips text (failures.NoLoop number)
+  pub loopless : (program : List Serial) (number : ℕ) → SaysProgram isa text program
+      → first_loopless program trips ≡ Some number → RefusesLooped isa trips text (failures.NoLoop number)
   loopless program number says first =
       inr (record { program = program; says = says; number = number; first = first; told = refl })
 
   -- what refuses loops refuses what is asked of them
-  pub no_loops : (ask : Ask) → ((message : List ℕ) → IsUnlooped trips text message → IsRefusedText ask text message)
-      → (f : Failure) → RefusesLooped trips text f → Gives ask text (Err f)
+  pub no_loops : (ask : Ask)
+      → ((message : List ℕ) → IsUnlooped isa trips text message → IsRefusedText isa ask text message)
+      → (f : Failure) → RefusesLooped isa trips text f → Gives isa ask text (Err f)
   no_loops ask same (failures.Unread fault) gives = same (fault_message fault.line fault.cause) gives
   no_loops ask same (failures.Unlisted fault) gives = absurd gives
   no_loops ask same (failures.Unadopted fault) gives = absurd gives
@@ -77,49 +79,55 @@ module _ (trips : List (Name × ℕ)) (text : List ℕ) where
   no_loops ask same failures.Output gives = absurd gives
 
 -- of each of the three
-pub no_listed_loops : (verbose : Bool) (packing : Packing) (trips : List (Name × ℕ)) (apart : List Reg) (text : List ℕ)
-    (f : Failure) → RefusesLooped trips text f → Gives (LoopListing verbose packing trips apart) text (Err f)
-no_listed_loops verbose packing trips apart text =
-    no_loops trips text (LoopListing verbose packing trips apart) (λ message is. is)
+pub no_listed_loops : (isa : InstructionSet) (verbose : Bool) (packing : Packing) (trips : List (Name × ℕ))
+    (apart : List Reg) (text : List ℕ)
+    (f : Failure) → RefusesLooped isa trips text f → Gives isa (LoopListing verbose packing trips apart) text (Err f)
+no_listed_loops isa verbose packing trips apart text =
+    no_loops isa trips text (LoopListing verbose packing trips apart) (λ message is. is)
 
-pub no_drawn_loops : (drawing : Drawing) (packing : Packing) (trips : List (Name × ℕ)) (apart : List Reg)
-    (text : List ℕ) (f : Failure) → RefusesLooped trips text f
-    → Gives (LoopPicture drawing packing trips apart) text (Err f)
-no_drawn_loops drawing packing trips apart text =
-    no_loops trips text (LoopPicture drawing packing trips apart) (λ message is. is)
+pub no_drawn_loops : (isa : InstructionSet) (drawing : Drawing) (packing : Packing) (trips : List (Name × ℕ))
+    (apart : List Reg)
+    (text : List ℕ) (f : Failure) → RefusesLooped isa trips text f
+    → Gives isa (LoopPicture drawing packing trips apart) text (Err f)
+no_drawn_loops isa drawing packing trips apart text =
+    no_loops isa trips text (LoopPicture drawing packing trips apart) (λ message is. is)
 
-pub no_run_loops : (verbose : Bool) (packing : Packing) (trips : List (Name × ℕ)) (apart : List Reg)
-    (course : FlightCourse) (settings : List Setting) (text : List ℕ) (f : Failure) → RefusesLooped trips text f
-    → Gives (LoopReport verbose packing trips apart course settings) text (Err f)
-no_run_loops verbose packing trips apart course settings text =
-    no_loops trips text (LoopReport verbose packing trips apart course settings) (λ message is. inl is)
+pub no_run_loops : (isa : InstructionSet) (verbose : Bool) (packing : Packing) (trips : List (Name × ℕ))
+    (apart : List Reg)
+    (course : FlightCourse) (settings : List Setting) (text : List ℕ) (f : Failure) → RefusesLooped isa trips text f
+    → Gives isa (LoopReport verbose packing trips apart course settings) text (Err f)
+no_run_loops isa verbose packing trips apart course settings text =
+    no_loops isa trips text (LoopReport verbose packing trips apart course settings) (λ message is. inl is)
 
 -- a program was read twice, and packed
-pub looped_text : (packing : Packing) (trips : List (Name × ℕ)) (apart : List Reg) (text : List ℕ)
+pub looped_text : (isa : InstructionSet) (packing : Packing) (trips : List (Name × ℕ)) (apart : List Reg)
+    (text : List ℕ)
     (program again : List Serial) (own : List Packed) (written : Pipelining)
-    → SaysProgram text program → first_loopless program trips ≡ None → SaysProgram text again
-    → AreScheduled packing again own → IsWritten trips apart program own written
-    → IsLooped packing trips apart text program written
-looped_text packing trips apart text program again own written says named other packed is = record {
+    → SaysProgram isa text program → first_loopless program trips ≡ None → SaysProgram isa text again
+    → AreScheduled packing again own → IsWritten isa trips apart program own written
+    → IsLooped isa packing trips apart text program written
+looped_text isa packing trips apart text program again own written says named other packed is = record {
   says = says;
   named = named;
   own = own;
-  packed = subst (λ (p : List Serial). AreScheduled packing p own) (one_program text again program other says) packed;
+  packed = subst (λ (p : List Serial). AreScheduled packing p own)
+      (one_program isa text again program other says) packed;
   is = is;
 }
 
 -- ---- a run
 
 -- what is written isn't read again
-pub unread_again : (verbose : Bool) (packing : Packing) (trips : List (Name × ℕ)) (apart : List Reg)
+pub unread_again : (isa : InstructionSet) (verbose : Bool) (packing : Packing) (trips : List (Name × ℕ))
+    (apart : List Reg)
     (course : FlightCourse) (settings : List Setting) (text : List ℕ) (program : List Serial) (written : Pipelining)
     (fault : RowsFault) (f : Failure)
-    → IsLooped packing trips apart text program written → IsRowsFailure fault f
-    → RefusesFrom written.text.items None fault
-    → Gives (LoopReport verbose packing trips apart course settings) text (Err f)
-unread_again verbose packing trips apart course settings text program written fault f looped (inl memory) refused =
+    → IsLooped isa packing trips apart text program written → IsRowsFailure fault f
+    → RefusesFrom isa written.text.items None fault
+    → Gives isa (LoopReport verbose packing trips apart course settings) text (Err f)
+unread_again isa verbose packing trips apart course settings text program written fault f looped (inl memory) refused =
     rw (memory.1) tt
-unread_again verbose packing trips apart course settings text program written fault f looped (inr known) refused =
+unread_again isa verbose packing trips apart course settings text program written fault f looped (inr known) refused =
     rw (known.1) (inr (record {
       program = program;
       written = written;
@@ -131,14 +139,15 @@ unread_again verbose packing trips apart course settings text program written fa
     }))
 
 -- it is, and this is its run
-pub loops_flown : (verbose : Bool) (packing : Packing) (trips : List (Name × ℕ)) (apart : List Reg)
+pub loops_flown : (isa : InstructionSet) (verbose : Bool) (packing : Packing) (trips : List (Name × ℕ))
+    (apart : List Reg)
     (course : FlightCourse) (settings : List Setting) (told text answer : List ℕ) (program : List Serial)
     (written : Pipelining) (begun : Begun) (outcome : Outcome)
-    → IsLooped packing trips apart text program written → told ≡ told_lines verbose program written
-    → BeginsAs written.text.items None begun
+    → IsLooped isa packing trips apart text program written → told ≡ told_lines verbose program written
+    → BeginsAs isa written.text.items None begun
     → IsFlown (text_of begun.rows) begun.labels.entries begun.first settings course outcome answer
-    → IsLoopReport verbose packing trips apart course settings told (breach_of outcome) text answer
-loops_flown verbose packing trips apart course settings told text answer program written begun outcome looped lines
+    → IsLoopReport isa verbose packing trips apart course settings told (breach_of outcome) text answer
+loops_flown isa verbose packing trips apart course settings told text answer program written begun outcome looped lines
     begins flown = record {
       program = program;
       written = written;

@@ -30,6 +30,7 @@ use Rattle.c62_answer.specs.Schedule.{AreScheduled, IsScheduled, MayStand}
 use Rattle.c62_answer.specs.Texts.{SaysProgram}
 use Rattle.c62_answer.specs.OneText.{HasOneText, HaveOnePacking}
 use Rattle.c62_answer.proofs.OneBoard.{one_board}
+use Rattle.c62_op.specs.declared.set.InstructionSet.{InstructionSet}
 
 -- ---- a text says one program
 
@@ -54,9 +55,10 @@ same_blocks [] (b ∷ others) e = absurd cc
 same_blocks (a ∷ program) [] e = absurd cc
 same_blocks (a ∷ program) (b ∷ others) e = grind (arith, same_block a b, same_blocks program others)
 
-pub one_program : (text : List ℕ) (program others : List Serial) → SaysProgram text program → SaysProgram text others
+pub one_program : (isa : InstructionSet) (text : List ℕ) (program others : List Serial) → SaysProgram isa text program
+    → SaysProgram isa text others
     → program ≡ others
-one_program text program others one other =
+one_program isa text program others one other =
     let both : ◌≡◌ {A = Result (List BlockParts) Refusal} (Ok (map block_parts program)) (Ok (map block_parts others)) =
     sym one ∙ other in
     let same : map block_parts program ≡ map block_parts others = cc in
@@ -251,9 +253,9 @@ one_packing packing (b ∷ program) turns plain (p ∷ packets) (q ∷ others) f
     ap (λ (x : Packed). x ∷ packets) (scheduled_once packing b p q turns plain first.0 last.0)
     ∙ ap (λ (xs : List Packed). q ∷ xs) (one_packing packing program turns plain packets others first.1 last.1)
 
-pub one_text : (packing : Packing) (text : List ℕ) → HasOneText packing text
-one_text packing text turns plain one other first last =
-    let program = one_program text first.program last.program first.says last.says in
+pub one_text : (isa : InstructionSet) (packing : Packing) (text : List ℕ) → HasOneText isa packing text
+one_text isa packing text turns plain one other first last =
+    let program = one_program isa text first.program last.program first.says last.says in
     let packed : AreScheduled packing last.program first.packets = subst
     (λ (blocks : List Serial). AreScheduled packing blocks first.packets) program first.packed in
     first.listed ∙ ap listing

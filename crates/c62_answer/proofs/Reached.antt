@@ -6,10 +6,11 @@ use Rattle.c62_answer.specs.declared.failure.Failure.{Failure}
 use Rattle.c62_answer.specs.declared.failure.Failure.TheVariants as failures
 use Rattle.c62_answer.specs.declared.outcome.Reply.{Reply}
 use Rattle.c62_answer.specs.Run.{Gives, TakesNothing}
+use Rattle.c62_op.specs.declared.set.InstructionSet.{InstructionSet}
 
-module _ (ask : Ask) (name text : List ℕ) where
+module _ (isa : InstructionSet) (ask : Ask) (name text : List ℕ) where
   -- where nothing was taken, that is the answer
-  pub not_reached : (f : Failure) → TakesNothing name text f → Gives (Reaching name ask) text (Err f)
+  pub not_reached : (f : Failure) → TakesNothing isa name text f → Gives isa (Reaching name ask) text (Err f)
   not_reached (failures.Unread fault) gives = absurd gives
   not_reached (failures.Unlisted fault) gives = absurd gives
   not_reached (failures.Unadopted fault) gives = absurd gives
@@ -28,8 +29,9 @@ module _ (ask : Ask) (name text : List ℕ) where
   not_reached failures.Input gives = absurd gives
   not_reached failures.Output gives = absurd gives
 
-  pub reached : (taken : List ℕ) (result : Result Reply Failure) → IsTaken name text taken → Gives ask taken result
-      → Gives (Reaching name ask) text result
+  pub reached : (taken : List ℕ) (result : Result Reply Failure) → IsTaken isa name text taken
+      → Gives isa ask taken result
+      → Gives isa (Reaching name ask) text result
   reached taken (Ok reply) is gives = (taken, is, gives)
   reached taken (Err (failures.Unread fault)) is gives = inr (taken, is, gives)
   reached taken (Err (failures.Unlisted fault)) is gives = inr (taken, is, gives)

@@ -37,15 +37,19 @@ use Rattle.c62_answer.specs.Schedule.{AreScheduled, IsScheduled}
 use Rattle.c62_answer.specs.Run.{IsStandingReport}
 use Rattle.c62_answer.specs.Texts.{SaysProgram}
 use Rattle.c62_answer.specs.ReadBack.{IsReadBack, IsReportOf}
-use Rattle.c62_answer.proofs.Schedules.{as_many, closed, runs_serially, same_labels}
+use Rattle.c62_op.specs.Units.{is_taken_in}
+use Rattle.c62_answer.proofs.Within.{program_is_of}
+use Rattle.c62_answer.proofs.Schedules.{all_pass, as_many, closed, runs_serially, same_labels}
 use Rattle.c62_read.specs.declared.limits.TheConstants.{MOST_BLOCKS}
+use Rattle.c62_op.specs.declared.set.InstructionSet.{InstructionSet}
 
 -- ---- what a text says
 
-few_said : (text : List ℕ) (program : List Serial) → SaysProgram text program → length program ≤ MOST_BLOCKS
-few_said text program says =
-    let read = program_back text (map block_parts program) says in
-    let stands = (walk_text (lines_of text)).1 read.0 read.1 in
+few_said : (isa : InstructionSet) (text : List ℕ) (program : List Serial) → SaysProgram isa text program
+    → length program ≤ MOST_BLOCKS
+few_said isa text program says =
+    let read = program_back isa text (map block_parts program) says in
+    let stands = (walk_text isa (lines_of text)).1 read.0 read.1 in
     let drafts = all_drafts read.0 in
     let count : length (map block_parts program) ≡ length (map (block_in drafts) drafts) = ap
     (λ (blocks : List BlockParts). length blocks) read.2 in
@@ -102,36 +106,38 @@ module _ (packing : Packing) where
             parts.1,
       )
 
-module _ (packing : Packing) (text : List ℕ) (program : List Serial) (packets : List Packed)
-    (says : SaysProgram text program)
+module _ (isa : InstructionSet) (packing : Packing) (text : List ℕ) (program : List Serial) (packets : List Packed)
+    (says : SaysProgram isa text program)
     (all : AreScheduled packing program packets) where
   given : labels_given packets ≡ labels_of (lines_of text)
   given =
       ap (flat_map option_to_list) (same_labels packing program packets all)
       ∙ flat_map-map option_to_list (λ (block : Serial). block.label) program
       ∙ sym (flat_map-map (λ (block : BlockParts). option_to_list block.label) block_parts program)
-      ∙ (has_its_labels text (map block_parts program) says).0
+      ∙ (has_its_labels isa text (map block_parts program) says).0
 
-  pub shown : AreShown packets
+  pub shown : AreShown isa packets
   shown = record {
-    few = omega (arith, few_said text program says, as_many packing program packets all);
+    few = omega (arith, few_said isa text program says, as_many packing program packets all);
     are_blocks = All-from_recursion IsPacketBlock packets (all_sound packing program packets all);
-    closed = closed packing program packets all (targets_read text program says);
+    closed = closed packing program packets all (targets_read isa text program says);
+    within = all_pass (is_taken_in isa) packing program packets all (program_is_of isa text program says);
     labels = subst (AllByRecursion (λ label. IsTrue (is_label label))) (sym given) (lines_good (lines_of text));
-    distinct = subst (IsDistinct bytes_eq) (sym given) (has_its_labels text (map block_parts program) says).1;
-    begun = all_begun packing true program packets all (has_cut_blocks text (map block_parts program) says).begins;
+    distinct = subst (IsDistinct bytes_eq) (sym given) (has_its_labels isa text (map block_parts program) says).1;
+    begun = all_begun packing true program packets all (has_cut_blocks isa text (map block_parts program) says).begins;
   }
 
 -- ---- what is read back
 
-module _ (packing : Packing) (program : List Serial) (packets others : List Packed) (answer : List ℕ)
+module _ (isa : InstructionSet) (packing : Packing) (program : List Serial) (packets others : List Packed)
+    (answer : List ℕ)
     (all : AreScheduled packing program packets)
-    (read : IsRead answer others) (alike : AreAlike packets others) where
+    (read : IsRead isa answer others) (alike : AreAlike packets others) where
   report_of : (settings : List Setting) (course : Course) (outcome : Outcome) (report : List ℕ)
-      (sim : IsStandingReport Listed settings course outcome answer report)
-      → IsReportOf program packets settings course outcome answer report sim
+      (sim : IsStandingReport isa Listed settings course outcome answer report)
+      → IsReportOf isa program packets settings course outcome answer report sim
   report_of settings course outcome report sim =
-      let same : sim.packets ≡ others = one_reading answer sim.packets others sim.read read in
+      let same : sim.packets ≡ others = one_reading isa answer sim.packets others sim.read read in
       let back : AreAlike sim.packets packets = ap (map unlined) same ∙ sym alike in
       let run = sim.reported in
       let sound = run.begin.sound in
@@ -143,18 +149,19 @@ module _ (packing : Packing) (program : List Serial) (packets others : List Pack
             sound runs.runs;
       }
 
-abbrev IsReadAs : List Packed → List ℕ → Type 0
-IsReadAs packets answer = (others : List Packed) × IsRead answer others × AreAlike packets others
+abbrev IsReadAs : InstructionSet → List Packed → List ℕ → Type 0
+IsReadAs isa packets answer = (others : List Packed) × IsRead isa answer others × AreAlike packets others
 
-pub is_read_back : (packing : Packing) (text answer : List ℕ) → IsReadBack packing text answer
-is_read_back packing text answer packed =
-    let whole = shown packing text packed.program packed.packets packed.says packed.packed in
-    let back : IsReadAs packed.packets answer = subst (IsReadAs packed.packets) (sym packed.listed)
-    (read_back packed.packets whole) in
+pub is_read_back : (isa : InstructionSet) (packing : Packing) (text answer : List ℕ)
+    → IsReadBack isa packing text answer
+is_read_back isa packing text answer packed =
+    let whole = shown isa packing text packed.program packed.packets packed.says packed.packed in
+    let back : IsReadAs isa packed.packets answer = subst (IsReadAs isa packed.packets) (sym packed.listed)
+    (read_back isa packed.packets whole) in
     record {
       shown = whole;
       others = back.0;
       read = back.1;
       alike = back.2;
-      reports = report_of packing packed.program packed.packets back.0 answer packed.packed back.1 back.2;
+      reports = report_of isa packing packed.program packed.packets back.0 answer packed.packed back.1 back.2;
     }

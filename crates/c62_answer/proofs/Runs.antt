@@ -21,31 +21,32 @@ use Rattle.c62_answer.specs.declared.outcome.Reply.{Reply}
 use Rattle.c62_answer.proofs.FrontAnswers.{answered}
 use Rattle.c62_answer.proofs.Fronts.{refused}
 use Rattle.c62_answer.proofs.Statuses.{neither, most_status, ends_otherwise}
+use Rattle.c62_op.specs.declared.set.InstructionSet.{InstructionSet}
 
 -- the answer to what was read, written
-pub answers : (ask : Ask) (known old new : Option (List ℕ)) (text : List ℕ) (reply : Reply)
+pub answers : (isa : InstructionSet) (ask : Ask) (known old new : Option (List ℕ)) (text : List ℕ) (reply : Reply)
     → IfSome known (λ all. text ≡ take (limit_of ask + 1) all)
-    → Gives ask text (Ok reply) → Appends old new reply.text.items → Does ask reply.outcome known old new
-answers ask None old new text reply read gives written = record {
+    → Gives isa ask text (Ok reply) → Appends old new reply.text.items → Does isa ask reply.outcome known old new
+answers isa ask None old new text reply read gives written = record {
   text = text;
   same = tt;
   answer = reply.text.items;
   is = gives;
   written = written;
 }
-answers ask (Some all) old new text reply read gives written = record {
+answers isa ask (Some all) old new text reply read gives written = record {
   text = all;
   same = refl;
   answer = reply.text.items;
-  is = answered ask reply.outcome all text reply.text.items read gives;
+  is = answered isa ask reply.outcome all text reply.text.items read gives;
   written = written;
 }
 
 -- a front of the answer to what was read, written
-pub breaks_off : (ask : Ask) (known old new : Option (List ℕ)) (text : List ℕ) (reply : Reply)
+pub breaks_off : (isa : InstructionSet) (ask : Ask) (known old new : Option (List ℕ)) (text : List ℕ) (reply : Reply)
     → IfSome known (λ all. text ≡ take (limit_of ask + 1) all)
-    → Gives ask text (Ok reply) → Tells old new reply.text.items → BreaksOff ask known old new
-breaks_off ask None old new text reply read gives written = record {
+    → Gives isa ask text (Ok reply) → Tells old new reply.text.items → BreaksOff isa ask known old new
+breaks_off isa ask None old new text reply read gives written = record {
   text = text;
   same = tt;
   outcome = reply.outcome;
@@ -53,12 +54,12 @@ breaks_off ask None old new text reply read gives written = record {
   is = gives;
   written = written;
 }
-breaks_off ask (Some all) old new text reply read gives written = record {
+breaks_off isa ask (Some all) old new text reply read gives written = record {
   text = all;
   same = refl;
   outcome = reply.outcome;
   answer = reply.text.items;
-  is = answered ask reply.outcome all text reply.text.items read gives;
+  is = answered isa ask reply.outcome all text reply.text.items read gives;
   written = written;
 }
 
@@ -67,42 +68,43 @@ Keeps-same None = tt
 Keeps-same (Some xs) = refl
 
 -- no answer came to what was read
-pub refuses : (ask : Ask) (known old : Option (List ℕ)) (text : List ℕ) (f : Failure)
-    → IfSome known (λ all. text ≡ take (limit_of ask + 1) all) → Gives ask text (Err f)
-    → Fails ask known old old f
-refuses ask known old text (failures.Unread fault) read gives =
-    (refused ask known text (fault_message fault.line fault.cause) read gives, Keeps-same old)
-refuses ask known old text (failures.Unlisted fault) read gives =
-    (refused ask known text (list_message fault) read gives, Keeps-same old)
-refuses ask known old text (failures.Unadopted fault) read gives =
-    (refused ask known text (adopt_message fault) read gives, Keeps-same old)
-refuses ask known old text (failures.Unflown fault) read gives =
-    (refused ask known text (rows_message fault) read gives, Keeps-same old)
-refuses ask known old text (failures.TextPart fault) read gives =
-    (refused ask known text (of_text (fault_message fault.line fault.cause)) read gives, Keeps-same old)
-refuses ask known old text (failures.ListingPart fault) read gives =
-    (refused ask known text (of_listing (list_message fault)) read gives, Keeps-same old)
-refuses ask known old text (failures.PacketsPart fault) read gives =
-    (refused ask known text (of_listing (adopt_message fault)) read gives, Keeps-same old)
-refuses ask known old text (failures.RowsPart fault) read gives =
-    (refused ask known text (of_listing (rows_message fault)) read gives, Keeps-same old)
-refuses ask known old text failures.NoListing read gives =
-    (refused ask known text no_listing read gives, Keeps-same old)
-refuses ask known old text (failures.NoLoop k) read gives =
-    (refused ask known text (no_loop k) read gives, Keeps-same old)
-refuses ask known old text (failures.Promise bad) read gives = absurd gives
-refuses ask known old text failures.Ways read gives = absurd gives
-refuses ask known old text failures.Memory read gives = Keeps-same old
-refuses ask known old text failures.Input read gives = absurd gives
-refuses ask known old text failures.Output read gives = absurd gives
-refuses ask known old text (failures.Words e) read gives = absurd gives
-refuses ask known old text (failures.Setting k) read gives = absurd gives
+pub refuses : (isa : InstructionSet) (ask : Ask) (known old : Option (List ℕ)) (text : List ℕ) (f : Failure)
+    → IfSome known (λ all. text ≡ take (limit_of ask + 1) all) → Gives isa ask text (Err f)
+    → Fails isa ask known old old f
+refuses isa ask known old text (failures.Unread fault) read gives =
+    (refused isa ask known text (fault_message fault.line fault.cause) read gives, Keeps-same old)
+refuses isa ask known old text (failures.Unlisted fault) read gives =
+    (refused isa ask known text (list_message fault) read gives, Keeps-same old)
+refuses isa ask known old text (failures.Unadopted fault) read gives =
+    (refused isa ask known text (adopt_message fault) read gives, Keeps-same old)
+refuses isa ask known old text (failures.Unflown fault) read gives =
+    (refused isa ask known text (rows_message fault) read gives, Keeps-same old)
+refuses isa ask known old text (failures.TextPart fault) read gives =
+    (refused isa ask known text (of_text (fault_message fault.line fault.cause)) read gives, Keeps-same old)
+refuses isa ask known old text (failures.ListingPart fault) read gives =
+    (refused isa ask known text (of_listing (list_message fault)) read gives, Keeps-same old)
+refuses isa ask known old text (failures.PacketsPart fault) read gives =
+    (refused isa ask known text (of_listing (adopt_message fault)) read gives, Keeps-same old)
+refuses isa ask known old text (failures.RowsPart fault) read gives =
+    (refused isa ask known text (of_listing (rows_message fault)) read gives, Keeps-same old)
+refuses isa ask known old text failures.NoListing read gives =
+    (refused isa ask known text no_listing read gives, Keeps-same old)
+refuses isa ask known old text (failures.NoLoop k) read gives =
+    (refused isa ask known text (no_loop k) read gives, Keeps-same old)
+refuses isa ask known old text (failures.Promise bad) read gives = absurd gives
+refuses isa ask known old text failures.Ways read gives = absurd gives
+refuses isa ask known old text failures.Memory read gives = Keeps-same old
+refuses isa ask known old text failures.Input read gives = absurd gives
+refuses isa ask known old text failures.Output read gives = absurd gives
+refuses isa ask known old text (failures.Words e) read gives = absurd gives
+refuses isa ask known old text (failures.Setting k) read gives = absurd gives
 
 -- the words are blamed
-pub blamed : (error : CommandError) (f : Failure) (words : List Text) (known old : Option (List ℕ))
+pub blamed : (isa : InstructionSet) (error : CommandError) (f : Failure) (words : List Text)
+    (known old : Option (List ℕ))
     → IsCommandFailure error f → IsRefusal error words
-    → HasFailed words known old old f
-blamed error f words known old is refusal = inl ((error, is, refusal), Keeps-same old)
+    → HasFailed isa words known old old f
+blamed isa error f words known old is refusal = inl ((error, is, refusal), Keeps-same old)
 
 -- words that ask for something do so
 pub for_asked : (words : List Text) (ask : Ask) (P : Ask → Type 0) → asked words ≡ Some ask → P ask
@@ -120,15 +122,16 @@ some_none : {T : Type 0} (o : Option T) (P : T → Type 0) → IsSomeAnd o P →
 some_none None P some none = some
 some_none (Some x) P some none = absurd cc
 
-pub done : (Told : Telling) (words : List Text) (old new : Streams) (outcome : Outcome)
+pub done : (isa : InstructionSet) (Told : Telling) (words : List Text) (old new : Streams) (outcome : Outcome)
     → Reads words old.input new.input → TellsOutcome Told outcome old.errors new.errors
-    → IsDone words outcome old.input old.output new.output → IsRunBy Told words old new (status_done outcome)
-done Told words old new outcome reads told does = record {
+    → IsDone isa words outcome old.input old.output new.output → IsRunBy isa Told words old new (status_done outcome)
+done isa Told words old new outcome reads told does = record {
   known = most_status outcome;
   done = λ _. record { outcome = outcome; ends = refl; done = does; told = told };
   refused = λ e. absurd (ends_otherwise outcome 1 (omega arith) (omega arith) e);
   blamed = λ e. absurd (ends_otherwise outcome 2 (omega arith) (omega arith) e);
-  judged = λ none. absurd (some_none (asked words) (λ ask. Does ask outcome old.input old.output new.output) does none);
+  judged = λ none. absurd
+      (some_none (asked words) (λ ask. Does isa ask outcome old.input old.output new.output) does none);
   unread = reads.unread;
   memory = λ e. absurd (ends_otherwise outcome 3 (omega arith) (omega arith) e);
   stream = λ e. absurd (ends_otherwise outcome 4 (omega arith) (omega arith) e);
@@ -137,9 +140,10 @@ done Told words old new outcome reads told does = record {
   most = reads.most;
 }
 
-module _ (Told : Telling) (words : List Text) (old new : Streams) (reads : Reads words old.input new.input) where
-  is_refused : Keeps old.output new.output → TellsOf Told (AsksInVain (asked words) old.input) old.errors new.errors
-      → (asked words ≡ None → ⊥) → IsRunBy Told words old new 1
+module _ (isa : InstructionSet) (Told : Telling) (words : List Text) (old new : Streams)
+    (reads : Reads words old.input new.input) where
+  is_refused : Keeps old.output new.output → TellsOf Told (AsksInVain isa (asked words) old.input) old.errors new.errors
+      → (asked words ≡ None → ⊥) → IsRunBy isa Told words old new 1
   is_refused quiet told some = record {
     known = search rules;
     done = λ e. absurd (neither e (λ zero. omega (arith, zero)) (λ five. omega (arith, five)));
@@ -154,7 +158,8 @@ module _ (Told : Telling) (words : List Text) (old new : Streams) (reads : Reads
     most = reads.most;
   }
 
-  is_blamed : Keeps old.output new.output → AsksNothing Told words old.errors new.errors → IsRunBy Told words old new 2
+  is_blamed : Keeps old.output new.output → AsksNothing Told words old.errors new.errors
+      → IsRunBy isa Told words old new 2
   is_blamed quiet told = record {
     known = search rules;
     done = λ e. absurd (neither e (λ zero. omega (arith, zero)) (λ five. omega (arith, five)));
@@ -170,7 +175,7 @@ module _ (Told : Telling) (words : List Text) (old new : Streams) (reads : Reads
   }
 
   is_out_of_memory : Keeps old.output new.output → Told old.errors new.errors (codes "memory\n")
-      → IsRunBy Told words old new 3
+      → IsRunBy isa Told words old new 3
   is_out_of_memory quiet told = record {
     known = search rules;
     done = λ e. absurd (neither e (λ zero. omega (arith, zero)) (λ five. omega (arith, five)));
@@ -186,9 +191,9 @@ module _ (Told : Telling) (words : List Text) (old new : Streams) (reads : Reads
   }
 
   is_cut_off : Told old.errors new.errors (codes "input\n") ⊎ Told old.errors new.errors (codes "output\n")
-      → Keeps old.output new.output ⊎ IsSomeAnd (asked words) (λ ask. BreaksOff ask old.input old.output new.output)
+      → Keeps old.output new.output ⊎ IsSomeAnd (asked words) (λ ask. BreaksOff isa ask old.input old.output new.output)
       → (asked words ≡ None → ⊥)
-      → IsRunBy Told words old new 4
+      → IsRunBy isa Told words old new 4
   is_cut_off told front some = record {
     known = search rules;
     done = λ e. absurd (neither e (λ zero. omega (arith, zero)) (λ five. omega (arith, five)));
@@ -205,7 +210,7 @@ module _ (Told : Telling) (words : List Text) (old new : Streams) (reads : Reads
 
   -- the words ask for nothing
   is_not_asked : (f : Failure) → Blames f words → Keeps old.output new.output
-      → IfSome (message_of f) (Told old.errors new.errors) → IsRunBy Told words old new (status_of f)
+      → IfSome (message_of f) (Told old.errors new.errors) → IsRunBy isa Told words old new (status_of f)
   is_not_asked f (command.Words e, is, unknown) quiet told = rw is (is_blamed quiet (inl unknown))
   is_not_asked f (command.Setting k, is, bad) quiet told =
       rw is (is_blamed quiet (inr (record { text = setting_message k; is = inl (k, bad, refl); told = rw is at told })))
@@ -218,9 +223,9 @@ module _ (Told : Telling) (words : List Text) (old new : Streams) (reads : Reads
   is_not_asked f (command.Memory, is, any) quiet told = rw is (is_out_of_memory quiet (rw is at told))
 
   -- what they ask for was not done
-  is_not_done : (f : Failure) (ask : Ask) → asked words ≡ Some ask → Fails ask old.input old.output new.output f
+  is_not_done : (f : Failure) (ask : Ask) → asked words ≡ Some ask → Fails isa ask old.input old.output new.output f
       → IfSome (message_of f) (Told old.errors new.errors)
-      → IsRunBy Told words old new (status_of f)
+      → IsRunBy isa Told words old new (status_of f)
   is_not_done (failures.Unlisted fault) ask is fails told =
       is_refused fails.1 (record { text = list_message fault; is = for_asked words ask _ is fails.0; told = told })
       (λ none. absurd cc)
@@ -268,12 +273,12 @@ module _ (Told : Telling) (words : List Text) (old new : Streams) (reads : Reads
   is_not_done (failures.Words e) ask is fails told = absurd fails
   is_not_done (failures.Setting k) ask is fails told = absurd fails
 
-  pub failed : (f : Failure) → HasFailed words old.input old.output new.output f
-      → IfSome (message_of f) (Told old.errors new.errors) → IsRunBy Told words old new (status_of f)
+  pub failed : (f : Failure) → HasFailed isa words old.input old.output new.output f
+      → IfSome (message_of f) (Told old.errors new.errors) → IsRunBy isa Told words old new (status_of f)
   failed f (inl blames) told = is_not_asked f blames.0 blames.1 told
   failed f (inr fails) told = go (asked words) refl fails
     where
-      go : (a : Option Ask) → asked words ≡ a → IsSomeAnd a (λ ask. Fails ask old.input old.output new.output f)
-          → IsRunBy Told words old new (status_of f)
+      go : (a : Option Ask) → asked words ≡ a → IsSomeAnd a (λ ask. Fails isa ask old.input old.output new.output f)
+          → IsRunBy isa Told words old new (status_of f)
       go None is none = absurd none
       go (Some ask) is some = is_not_done f ask is some told

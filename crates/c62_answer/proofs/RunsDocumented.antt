@@ -30,19 +30,22 @@ use Rattle.c62_answer.proofs.Answering.{flight_text}
 use Rattle.c62_answer.proofs.Schedules.{runs_serially}
 use Rattle.c62_answer.proofs.Documented.{refused_too}
 use Rattle.c62_answer.proofs.Looping.{no_run_loops}
+use Rattle.c62_op.specs.declared.set.InstructionSet.{InstructionSet}
 
-pub serial_documented : (course : Course) (settings : List Given) (apart : List Reg) (outcome : Outcome)
-    (text answer : List ℕ) (program : List Serial) → SaysProgram text program
+pub serial_documented : (isa : InstructionSet) (course : Course) (settings : List Given) (apart : List Reg)
+    (outcome : Outcome)
+    (text answer : List ℕ) (program : List Serial) → SaysProgram isa text program
     → TellsOfRun program settings course outcome answer
-    → IsAnswer (Document (SerialReport course settings apart)) outcome text answer
-serial_documented course settings apart outcome text answer program says (report, is, document) =
+    → IsAnswer isa (Document (SerialReport course settings apart)) outcome text answer
+serial_documented isa course settings apart outcome text answer program says (report, is, document) =
     (report, record { program = program; says = says; reported = is }, document)
 
-pub run_documented : (packing : Packing) (course : Course) (settings : List Given) (outcome : Outcome)
-    (text answer : List ℕ) (program : List Serial) (packets : List Packed) → SaysProgram text program
+pub run_documented : (isa : InstructionSet) (packing : Packing) (course : Course) (settings : List Given)
+    (outcome : Outcome)
+    (text answer : List ℕ) (program : List Serial) (packets : List Packed) → SaysProgram isa text program
     → AreScheduled packing program packets → TellsOfPackets (codes "run") packets settings course outcome answer
-    → IsAnswer (Document (PacketReport packing course settings)) outcome text answer
-run_documented packing course settings outcome text answer program packets says packed (report, is, document) = (
+    → IsAnswer isa (Document (PacketReport packing course settings)) outcome text answer
+run_documented isa packing course settings outcome text answer program packets says packed (report, is, document) = (
   report,
   record {
     program = program;
@@ -58,41 +61,45 @@ run_documented packing course settings outcome text answer program packets says 
   document,
 )
 
-pub sim_documented : (form : Form) (course : Course) (settings : List Given) (outcome : Outcome) (text answer : List ℕ)
-    (packets : List Packed) → SaysPackets form text packets
+pub sim_documented : (isa : InstructionSet) (form : Form) (course : Course) (settings : List Given) (outcome : Outcome)
+    (text answer : List ℕ)
+    (packets : List Packed) → SaysPackets isa form text packets
     → TellsOfPackets (codes "sim") packets settings course outcome answer
-    → IsAnswer (Document (StandingReport form course settings)) outcome text answer
-sim_documented form course settings outcome text answer packets says (report, is, document) =
+    → IsAnswer isa (Document (StandingReport form course settings)) outcome text answer
+sim_documented isa form course settings outcome text answer packets says (report, is, document) =
     (report, record { packets = packets; read = says; reported = is }, document)
 
-pub exec_documented : (course : FlightCourse) (named from : Option Name) (settings : List Given) (outcome : Outcome)
+pub exec_documented : (isa : InstructionSet) (course : FlightCourse) (named from : Option Name) (settings : List Given)
+    (outcome : Outcome)
     (text code answer : List ℕ) (begun : Begun) → named ≡ from
-    → code_read text ≡ Ok code → BeginsAs code named begun
+    → code_read isa text ≡ Ok code → BeginsAs isa code named begun
     → TellsOfFlight (codes "exec") (text_of begun.rows) begun.labels.entries begun.first settings course outcome answer
-    → IsAnswer (Document (FlightReport course from settings)) outcome text answer
+    → IsAnswer isa (Document (FlightReport course from settings)) outcome text answer
 unfolding flight_text
-exec_documented course named from settings outcome text code answer begun same is begins (report, flown, document) =
-    (report, flight_text course named from settings outcome text code report begun same is begins flown, document)
+exec_documented isa course named from settings outcome text code answer begun same is begins (report, flown, document) =
+    (report, flight_text isa course named from settings outcome text code report begun same is begins flown, document)
 
 -- ---- loops
 
-pub no_run_loops_documented : (verbose : Bool) (packing : Packing) (trips : List (Name × ℕ)) (apart : List Reg)
-    (course : FlightCourse) (settings : List Given) (text : List ℕ) (f : Failure) → RefusesLooped trips text f
-    → Gives (Document (LoopReport verbose packing trips apart course settings)) text (Err f)
-no_run_loops_documented verbose packing trips apart course settings text f refused =
-    refused_too (LoopReport verbose packing trips apart course settings) text f
-    (no_run_loops verbose packing trips apart course settings text f refused)
+pub no_run_loops_documented : (isa : InstructionSet) (verbose : Bool) (packing : Packing) (trips : List (Name × ℕ))
+    (apart : List Reg)
+    (course : FlightCourse) (settings : List Given) (text : List ℕ) (f : Failure) → RefusesLooped isa trips text f
+    → Gives isa (Document (LoopReport verbose packing trips apart course settings)) text (Err f)
+no_run_loops_documented isa verbose packing trips apart course settings text f refused =
+    refused_too isa (LoopReport verbose packing trips apart course settings) text f
+    (no_run_loops isa verbose packing trips apart course settings text f refused)
 
-pub loops_documented : (verbose : Bool) (packing : Packing) (trips : List (Name × ℕ)) (apart : List Reg)
+pub loops_documented : (isa : InstructionSet) (verbose : Bool) (packing : Packing) (trips : List (Name × ℕ))
+    (apart : List Reg)
     (course : FlightCourse) (settings : List Given) (told : Vec ℕ Global) (text answer : List ℕ) (program : List Serial)
     (written : Pipelining) (begun : Begun) (outcome : Outcome) (has : Option Breach)
-    → has ≡ breach_of outcome → IsLooped packing trips apart text program written
+    → has ≡ breach_of outcome → IsLooped isa packing trips apart text program written
     → told.items ≡ told_lines verbose program written
-    → BeginsAs written.text.items None begun
+    → BeginsAs isa written.text.items None begun
     → TellsOfFlight (codes "run") (text_of begun.rows) begun.labels.entries begun.first settings course outcome answer
-    → IsAnswer (Document (LoopReport verbose packing trips apart course settings)) (Looped told has) text
+    → IsAnswer isa (Document (LoopReport verbose packing trips apart course settings)) (Looped told has) text
     answer
-loops_documented verbose packing trips apart course settings told text answer program written begun outcome has ends
+loops_documented isa verbose packing trips apart course settings told text answer program written begun outcome has ends
     looped lines begins tells =
     let moved = subst (λ (labels : List (Label × ℕ)).
     TellsOfFlight (codes "run") (text_of begun.rows) labels begun.first settings course outcome answer) begins.named

@@ -8,7 +8,9 @@ use Rattle.std.proofs.lemmas.List.Sums.{list_all-from_AllPass}
 use Rattle.std.proofs.lemmas.List.Sorted.{All-permutation}
 use Rattle.clap.proofs.WalkLemmas.{both}
 use Rattle.c62_op.specs.declared.operands.Operands.{Operands}
-use Rattle.c62_insn.specs.Insn.{operands_of}
+use Rattle.c62_op.specs.declared.operands.Op.{Op}
+use Rattle.c62_insn.specs.declared.insn.Insn.{Insn}
+use Rattle.c62_insn.specs.Insn.{op_of, operands_of}
 use Rattle.c62_read.specs.declared.block.SerialInsn.{SerialInsn}
 use Rattle.c62_read.specs.Block.{Serial, labels_in, target_stands, targets_stand}
 use Rattle.c62_serial.specs.State.{Machine, IsSound}
@@ -200,48 +202,55 @@ pub nothing_left : {X : Type 0} (xs : List X) → length xs ≡ 0 → xs ≡ []
 nothing_left [] none = refl
 nothing_left (x ∷ xs) none = absurd (omega arith)
 
--- ---- branches go to blocks that are there
+-- ---- what holds of the instructions of blocks holds of those of their packets
 
 stands_more : {X : Type 0} (P : X → Type 0) (x : X) (xs : List X) → P x → All P xs → All P (x ∷ xs)
 stands_more P x xs one all zero d less = one
 stands_more P x xs one all (suc k) d less = all k d (omega arith)
 
-each_stands : (labels : List (Option (List ℕ))) (insns : List SerialInsn) (spots : List Spot) (serial : List Placed)
-    → AreNumbered insns spots serial
-    → list_all (λ entry. target_stands labels (operands_of entry.insn)) insns ≡ true
-    → All (λ p. target_stands labels (operands_of p.insn) ≡ true) serial
-each_stands labels [] [] [] all stand = λ k d less. absurd (omega arith)
-each_stands labels [] [] (p ∷ serial) all stand = absurd all
-each_stands labels [] (s ∷ spots) serial all stand = absurd all
-each_stands labels (e ∷ insns) [] serial all stand = absurd all
-each_stands labels (e ∷ insns) (s ∷ spots) [] all stand = absurd all
-each_stands labels (e ∷ insns) (s ∷ spots) (p ∷ serial) all stand =
-    let parts = both _ _ stand in
-    let same : operands_of e.insn ≡ operands_of p.insn = all.0.insn.operands in
-    stands_more (λ q. target_stands labels (operands_of q.insn) ≡ true) p serial
-    (subst (λ (o : Operands). target_stands labels o ≡ true) same parts.0)
-    (each_stands labels insns spots serial all.1 parts.1)
+module _ (test : Op → Operands → Bool) where
+  abbrev pub passes : Insn → Bool
+  passes insn = test (op_of insn) (operands_of insn)
 
-block_stands : (packing : Packing) (labels : List (Option (List ℕ))) (block : Serial) (packed : Packed)
-    → IsScheduled packing block packed
-    → list_all (λ entry. target_stands labels (operands_of entry.insn)) block.insns ≡ true
-    → list_all (λ p. target_stands labels (operands_of p.insn)) packed.placed ≡ true
-block_stands packing labels block packed is stand =
-    let packets = is.packets in
-    list_all-from_AllPass (λ p. target_stands labels (operands_of p.insn)) packed.placed
-    (All-permutation (λ p. target_stands labels (operands_of p.insn) ≡ true) packets.serial packed.placed packets.listed
-    (each_stands labels block.insns packets.spots packets.serial packets.numbered stand))
+  each_passes : (insns : List SerialInsn) (spots : List Spot) (serial : List Placed)
+      → AreNumbered insns spots serial
+      → list_all (λ entry. passes entry.insn) insns ≡ true
+      → All (λ p. passes p.insn ≡ true) serial
+  each_passes [] [] [] all pass = λ k d less. absurd (omega arith)
+  each_passes [] [] (p ∷ serial) all pass = absurd all
+  each_passes [] (s ∷ spots) serial all pass = absurd all
+  each_passes (e ∷ insns) [] serial all pass = absurd all
+  each_passes (e ∷ insns) (s ∷ spots) [] all pass = absurd all
+  each_passes (e ∷ insns) (s ∷ spots) (p ∷ serial) all pass =
+      let parts = both _ _ pass in
+      let same = all.0.insn in
+      stands_more (λ q. passes q.insn ≡ true) p serial
+      (subst (λ (o : Op). test o (operands_of p.insn) ≡ true) same.op
+      (subst (λ (o : Operands). test (op_of e.insn) o ≡ true) same.operands parts.0))
+      (each_passes insns spots serial all.1 parts.1)
 
-all_stand : (packing : Packing) (labels : List (Option (List ℕ))) (blocks : List Serial) (packets : List Packed)
-    → AreScheduled packing blocks packets
-    → list_all (λ block. list_all (λ entry. target_stands labels (operands_of entry.insn)) block.insns) blocks ≡ true
-    → list_all (λ packed. list_all (λ p. target_stands labels (operands_of p.insn)) packed.placed) packets ≡ true
-all_stand packing labels [] [] all stand = refl
-all_stand packing labels [] (q ∷ packets) all stand = absurd all
-all_stand packing labels (b ∷ blocks) [] all stand = absurd all
-all_stand packing labels (b ∷ blocks) (q ∷ packets) all stand =
-    let parts = both _ _ stand in
-    rw (block_stands packing labels b q all.0 parts.0) (all_stand packing labels blocks packets all.1 parts.1)
+  block_passes : (packing : Packing) (block : Serial) (packed : Packed)
+      → IsScheduled packing block packed
+      → list_all (λ entry. passes entry.insn) block.insns ≡ true
+      → list_all (λ p. passes p.insn) packed.placed ≡ true
+  block_passes packing block packed is pass =
+      let packets = is.packets in
+      list_all-from_AllPass (λ p. passes p.insn) packed.placed
+      (All-permutation (λ p. passes p.insn ≡ true) packets.serial packed.placed packets.listed
+      (each_passes block.insns packets.spots packets.serial packets.numbered pass))
+
+  pub all_pass : (packing : Packing) (blocks : List Serial) (packets : List Packed)
+      → AreScheduled packing blocks packets
+      → list_all (λ block. list_all (λ entry. passes entry.insn) block.insns) blocks ≡ true
+      → list_all (λ packed. list_all (λ p. passes p.insn) packed.placed) packets ≡ true
+  all_pass packing [] [] all pass = refl
+  all_pass packing [] (q ∷ packets) all pass = absurd all
+  all_pass packing (b ∷ blocks) [] all pass = absurd all
+  all_pass packing (b ∷ blocks) (q ∷ packets) all pass =
+      let parts = both _ _ pass in
+      rw (block_passes packing b q all.0 parts.0) (all_pass packing blocks packets all.1 parts.1)
+
+-- ---- branches go to blocks that are there
 
 pub same_labels : (packing : Packing) (blocks : List Serial) (packets : List Packed)
     → AreScheduled packing blocks packets → labels_of packets ≡ labels_in blocks
@@ -257,7 +266,8 @@ unfolding targets_stand
 closed packing blocks packets all stand =
     subst (λ (labels : List (Option (List ℕ))). list_all
     (λ packed. list_all (λ p. target_stands labels (operands_of p.insn)) packed.placed) packets ≡ true)
-    (sym (same_labels packing blocks packets all)) (all_stand packing (labels_in blocks) blocks packets all stand)
+    (sym (same_labels packing blocks packets all))
+    (all_pass (λ op operands. target_stands (labels_in blocks) operands) packing blocks packets all stand)
 
 -- ---- the packets run as the program does
 

@@ -13,53 +13,59 @@ use Rattle.c62_packet.specs.Packed.{Packed}
 use Rattle.c62_answer.specs.Texts.{SaysProgram}
 use Rattle.c62_read.specs.Program.{most_bytes}
 use Rattle.c62_listing_reader.specs.Faults.{most_bytes as most_listing_bytes}
+use Rattle.c62_op.specs.declared.set.InstructionSet.{InstructionSet}
 
-pub too_long : (text : List ℕ) → most_bytes < length text → program_in text ≡ Err (0, TextTooLong)
+pub too_long : (isa : InstructionSet) (text : List ℕ) → most_bytes < length text
+    → program_in isa text ≡ Err (0, TextTooLong)
 unfolding program_in drafts_in
-too_long text long = rw (lt-ltb most_bytes (length text) long) refl
+too_long isa text long = rw (lt-ltb most_bytes (length text) long) refl
 
-pub too_long_listing : (text : List ℕ) → most_listing_bytes < length text → listed_in text ≡ Err (0, Read TextTooLong)
-too_long_listing text long = rw (lt-ltb most_listing_bytes (length text) long) refl
+pub too_long_listing : (isa : InstructionSet) (text : List ℕ) → most_listing_bytes < length text
+    → listed_in isa text ≡ Err (0, Read TextTooLong)
+too_long_listing isa text long = rw (lt-ltb most_listing_bytes (length text) long) refl
 
 -- a text that says a program is none of these
-pub short_said : (text : List ℕ) (program : List Serial) → SaysProgram text program → length text ≤ most_bytes
-short_said text program says =
+pub short_said : (isa : InstructionSet) (text : List ℕ) (program : List Serial) → SaysProgram isa text program
+    → length text ≤ most_bytes
+short_said isa text program says =
     elim (cases_lt most_bytes (length text)) [
       | inl long ↦
           let both : ◌≡◌ {A = Result (List BlockParts) Refusal} (Ok (map block_parts program)) (Err (0, TextTooLong)) =
-          sym says ∙ too_long text long in
+          sym says ∙ too_long isa text long in
           absurd cc
       | inr short ↦ short
     ]
 
 -- what is told of a text is told of one that says the same
-pub refuses_same : (text other : List ℕ) (fault : ListFault) → listed_in text ≡ listed_in other → Refuses text fault
-    → Refuses other fault
-refuses_same text other (listed.Read fault) same is = sym same ∙ is
-refuses_same text other (listed.Shape line) same is = sym same ∙ is
-refuses_same text other (listed.TwoBranches number) same is = record {
+pub refuses_same : (isa : InstructionSet) (text other : List ℕ) (fault : ListFault)
+    → listed_in isa text ≡ listed_in isa other → Refuses isa text fault
+    → Refuses isa other fault
+refuses_same isa text other (listed.Read fault) same is = sym same ∙ is
+refuses_same isa text other (listed.Shape line) same is = sym same ∙ is
+refuses_same isa text other (listed.TwoBranches number) same is = record {
   drafts = is.drafts;
   said = sym same
       ∙ is.said;
   block = is.block;
 }
-refuses_same text other (listed.NotDrained number) same is = record {
+refuses_same isa text other (listed.NotDrained number) same is = record {
   drafts = is.drafts;
   said = sym same
       ∙ is.said;
   block = is.block;
 }
-refuses_same text other (listed.Unlawful number cycle rule) same is = record {
+refuses_same isa text other (listed.Unlawful number cycle rule) same is = record {
   drafts = is.drafts;
   said = sym same
       ∙ is.said;
   block = is.block;
 }
-refuses_same text other listed.Memory same is = tt
+refuses_same isa text other listed.Memory same is = tt
 
-pub read_same : (text other : List ℕ) (packets : List Packed) → listed_in text ≡ listed_in other → IsRead text packets
-    → IsRead other packets
-read_same text other packets same is = record {
+pub read_same : (isa : InstructionSet) (text other : List ℕ) (packets : List Packed)
+    → listed_in isa text ≡ listed_in isa other → IsRead isa text packets
+    → IsRead isa other packets
+read_same isa text other packets same is = record {
   drafts = is.drafts;
   said = sym same
       ∙ is.said;

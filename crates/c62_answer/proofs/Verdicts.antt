@@ -13,20 +13,21 @@ use Rattle.c62_answer.specs.Check.IsNoCheck.{Endless, FaultyListing, FaultyText,
 use Rattle.c62_answer.specs.Run.{Gives, GivesPacketsPart, GivesTextPart, IsAnswer, outcome_of}
 use Rattle.c62_command.specs.CommandLine.{Verdicts}
 use Rattle.c62_read.specs.Program.{most_bytes}
+use Rattle.c62_op.specs.declared.set.InstructionSet.{InstructionSet}
 
 -- no line parts the input
-pub endless : (form : Form) (input : List ℕ) → HasNoParting input → most_bytes < length input
-    → IsNoCheck form input (of_text (fault_message 0 TextTooLong))
-endless form input none long = Endless
+pub endless : (isa : InstructionSet) (form : Form) (input : List ℕ) → HasNoParting input → most_bytes < length input
+    → IsNoCheck isa form input (of_text (fault_message 0 TextTooLong))
+endless isa form input none long = Endless
     (record { long = long; none = λ text listing cut. absurd (none text listing cut) }) refl
 
-pub unparted : (form : Form) (input : List ℕ) → HasNoParting input → length input ≤ most_bytes
-    → IsNoCheck form input no_listing
-unparted form input none short = Unparted (record { short = short; none = none }) refl
+pub unparted : (isa : InstructionSet) (form : Form) (input : List ℕ) → HasNoParting input → length input ≤ most_bytes
+    → IsNoCheck isa form input no_listing
+unparted isa form input none short = Unparted (record { short = short; none = none }) refl
 
-module _ (form : Form) (input text listing : List ℕ) (parted : IsParted input text listing) where
+module _ (isa : InstructionSet) (form : Form) (input text listing : List ℕ) (parted : IsParted input text listing) where
   -- no program was read
-  pub no_text : (f : Failure) → GivesTextPart text (Err f) → Gives (Verdicts form) input (Err f)
+  pub no_text : (f : Failure) → GivesTextPart isa text (Err f) → Gives isa (Verdicts form) input (Err f)
   no_text (failures.Unread fault) gives = absurd gives
   no_text (failures.Unlisted fault) gives = absurd gives
   no_text (failures.Unadopted fault) gives = absurd gives
@@ -54,8 +55,8 @@ module _ (form : Form) (input text listing : List ℕ) (parted : IsParted input 
   no_text failures.Output gives = absurd gives
 
   -- a program was read, and no packets
-  pub no_packets_part : (program : List Serial) → SaysProgram text program → (f : Failure)
-      → GivesPacketsPart form listing (Err f) → Gives (Verdicts form) input (Err f)
+  pub no_packets_part : (program : List Serial) → SaysProgram isa text program → (f : Failure)
+      → GivesPacketsPart isa form listing (Err f) → Gives isa (Verdicts form) input (Err f)
   no_packets_part program says (failures.Unread fault) gives = absurd gives
   no_packets_part program says (failures.Unlisted fault) gives = absurd gives
   no_packets_part program says (failures.Unadopted fault) gives = absurd gives
@@ -95,7 +96,8 @@ module _ (form : Form) (input text listing : List ℕ) (parted : IsParted input 
   no_packets_part program says failures.Output gives = absurd gives
 
 -- both were read, and this is told of them
-pub told : (form : Form) (input answer : List ℕ) (same : Bool) → IsCheck form input same answer
-    → IsAnswer (Verdicts form) (outcome_of same) input answer
-told form input answer true is = is
-told form input answer false is = is
+pub told : (isa : InstructionSet) (form : Form) (input answer : List ℕ) (same : Bool)
+    → IsCheck isa form input same answer
+    → IsAnswer isa (Verdicts form) (outcome_of same) input answer
+told isa form input answer true is = is
+told isa form input answer false is = is

@@ -15,6 +15,7 @@ use Rattle.c62_adopt.specs.Answer.{IsAdopted, code_in}
 use Rattle.c62_adopt.proofs.CodeLemmas.{long_read}
 use Rattle.c62_answer.specs.Texts.{SaysProgram}
 use Rattle.c62_answer.proofs.TooLong.{short_said, too_long_listing}
+use Rattle.c62_op.specs.declared.set.InstructionSet.{InstructionSet}
 
 -- what is read up to one byte past a limit, and is no longer than that, is all
 short_front : (most : ℕ) (all : List ℕ) → length (take (most + 1) all) ≤ most → take (most + 1) all ≡ all
@@ -24,43 +25,47 @@ short_front most all short =
       | inr few ↦ take_all (most + 1) all (omega arith)
     ]
 
-pub whole_program : (all : List ℕ) (program : List Serial) → SaysProgram (take (most_bytes + 1) all) program
+pub whole_program : (isa : InstructionSet) (all : List ℕ) (program : List Serial)
+    → SaysProgram isa (take (most_bytes + 1) all) program
     → take (most_bytes + 1) all ≡ all
-whole_program all program says = short_front most_bytes all (short_said (take (most_bytes + 1) all) program says)
+whole_program isa all program says =
+    short_front most_bytes all (short_said isa (take (most_bytes + 1) all) program says)
 
-short_listing : (text : List ℕ) (packets : List Packed) → IsRead text packets → length text ≤ most_listing_bytes
-short_listing text packets is =
+short_listing : (isa : InstructionSet) (text : List ℕ) (packets : List Packed) → IsRead isa text packets
+    → length text ≤ most_listing_bytes
+short_listing isa text packets is =
     elim (cases_lt most_listing_bytes (length text)) [
       | inl long ↦
           let both : ◌≡◌ {A = Result Drafts Refusal} (Ok is.drafts) (Err (0, Read TextTooLong)) =
-          sym is.said ∙ too_long_listing text long in
+          sym is.said ∙ too_long_listing isa text long in
           absurd cc
       | inr short ↦ short
     ]
 
-pub whole_listing : (all : List ℕ) (packets : List Packed) → IsRead (take (most_listing_bytes + 1) all) packets
+pub whole_listing : (isa : InstructionSet) (all : List ℕ) (packets : List Packed)
+    → IsRead isa (take (most_listing_bytes + 1) all) packets
     → take (most_listing_bytes + 1) all ≡ all
-whole_listing all packets is =
-    short_front most_listing_bytes all (short_listing (take (most_listing_bytes + 1) all) packets is)
+whole_listing isa all packets is =
+    short_front most_listing_bytes all (short_listing isa (take (most_listing_bytes + 1) all) packets is)
 
-long_cut : (text : List ℕ) → most_packets_bytes < length text → text_cut text ≡ too_long
+long_cut : (isa : InstructionSet) (text : List ℕ) → most_packets_bytes < length text → text_cut isa text ≡ too_long
 unfolding text_cut
-long_cut text long = rw (lt-ltb most_packets_bytes (length text) long) refl
+long_cut isa text long = rw (lt-ltb most_packets_bytes (length text) long) refl
 
-short_packets : (text : List ℕ) (packets : List Packed) → IsAdopted false text packets 0
+short_packets : (isa : InstructionSet) (text : List ℕ) (packets : List Packed) → IsAdopted isa false text packets 0
     → length text ≤ most_packets_bytes
-short_packets text packets is =
+short_packets isa text packets is =
     elim (cases_lt most_packets_bytes (length text)) [
       | inl long ↦
-          let cut = ap text_cut (ap code_in (long_read text long))
-          ∙ long_cut (take (most_packets_bytes + 1) text)
+          let cut = ap (text_cut isa) (ap code_in (long_read isa text long))
+          ∙ long_cut isa (take (most_packets_bytes + 1) text)
           (omega (arith, length-take (most_packets_bytes + 1) text)) in
           let both : too_long.fault ≡ None = ap (λ (c : Cut). c.fault) (sym cut) ∙ is.read.cut.whole in
           absurd cc
       | inr short ↦ short
     ]
 
-pub whole_packets : (all : List ℕ) (packets : List Packed)
-    → IsAdopted false (take (most_packets_bytes + 1) all) packets 0 → take (most_packets_bytes + 1) all ≡ all
-whole_packets all packets is =
-    short_front most_packets_bytes all (short_packets (take (most_packets_bytes + 1) all) packets is)
+pub whole_packets : (isa : InstructionSet) (all : List ℕ) (packets : List Packed)
+    → IsAdopted isa false (take (most_packets_bytes + 1) all) packets 0 → take (most_packets_bytes + 1) all ≡ all
+whole_packets isa all packets is =
+    short_front most_packets_bytes all (short_packets isa (take (most_packets_bytes + 1) all) packets is)

@@ -11,10 +11,12 @@ use Rattle.clap.specs.Words.{Text}
 use Rattle.c62_answer.specs.declared.outcome.Outcome.{Outcome}
 use Rattle.c62_answer.specs.declared.outcome.Outcome.TheVariants.{Done, Drained, NotSame, Breached, Looped}
 use Rattle.c62_answer.proofs.Telling.{whole_told}
+use Rattle.c62_op.specs.declared.set.InstructionSet.{InstructionSet}
 
 -- ---- what is told whole is told
 
-module _ (Told Other : Telling) (weaker : (old new : Option (List ℕ)) (text : List ℕ) → Told old new text
+module _ (isa : InstructionSet) (Told Other : Telling)
+    (weaker : (old new : Option (List ℕ)) (text : List ℕ) → Told old new text
     → Other old new text) where
   told_weaker : (IsText : List ℕ → Type 0) (old new : Option (List ℕ)) → TellsOf Told IsText old new
       → TellsOf Other IsText old new
@@ -38,8 +40,8 @@ module _ (Told Other : Telling) (weaker : (old new : Option (List ℕ)) (text : 
   stream_weaker old new text other (inl told) = inl (weaker old new text told)
   stream_weaker old new text other (inr told) = inr (weaker old new other told)
 
-  pub run_weaker : (words : List Text) (old new : Streams) (status : ℕ) → IsRunBy Told words old new status
-      → IsRunBy Other words old new status
+  pub run_weaker : (words : List Text) (old new : Streams) (status : ℕ) → IsRunBy isa Told words old new status
+      → IsRunBy isa Other words old new status
   run_weaker words old new status run = record {
     known = run.known;
     done = λ e. let ended = run.done e in record {
@@ -71,11 +73,11 @@ told_tells (Err refused) old new text front = front
 pub held : (bytes text : List ℕ) → Tells (Some []) (Some bytes) text → IsFront bytes text
 held bytes text told = (told.0, told.1)
 
-pub on_bytes : (words : List Text) (input rest output errors : List ℕ) (status : ℕ)
-    → IsRun words (record { input = Some input; output = Some []; errors = Some [] })
+pub on_bytes : (isa : InstructionSet) (words : List Text) (input rest output errors : List ℕ) (status : ℕ)
+    → IsRun isa words (record { input = Some input; output = Some []; errors = Some [] })
     (record { input = Some rest; output = Some output; errors = Some errors }) status
-    → IsRunOnBytes words input output errors status
-on_bytes words input rest output errors status run = record {
+    → IsRunOnBytes isa words input output errors status
+on_bytes isa words input rest output errors status run = record {
   known = run.known;
   done = λ e. ended_in (run.done e);
   refused = λ e. let told = run.refused e in (told.text, told.is, held errors told.text told.told);
@@ -88,12 +90,12 @@ on_bytes words input rest output errors status run = record {
 }
   where
     answered_in : (outcome : Outcome) (a : Option Ask)
-        → IsSomeAnd a (λ ask. Does ask outcome (Some input) (Some []) (Some output))
-        → IsSomeAnd a (λ ask. IsAnswer ask outcome input output)
+        → IsSomeAnd a (λ ask. Does isa ask outcome (Some input) (Some []) (Some output))
+        → IsSomeAnd a (λ ask. IsAnswer isa ask outcome input output)
     answered_in outcome None none = absurd none
     answered_in outcome (Some ask) does =
-        subst (λ (text : List ℕ). IsAnswer ask outcome text output) (sym does.same)
-        (subst (IsAnswer ask outcome does.text) (sym does.written) does.is)
+        subst (λ (text : List ℕ). IsAnswer isa ask outcome text output) (sym does.same)
+        (subst (IsAnswer isa ask outcome does.text) (sym does.written) does.is)
 
     told_in : (outcome : Outcome) → TellsOutcome Tells outcome (Some []) (Some errors) → IsToldOf outcome errors
     told_in Done told = told
@@ -102,9 +104,9 @@ on_bytes words input rest output errors status run = record {
     told_in (Breached breach) told = told
     told_in (Looped lines breach) told = held errors lines.items told
 
-    ended_in : Ends Tells words (record { input = Some input; output = Some []; errors = Some [] })
+    ended_in : Ends isa Tells words (record { input = Some input; output = Some []; errors = Some [] })
         (record { input = Some rest; output = Some output; errors = Some errors }) status
-        → EndsOnBytes words input output errors status
+        → EndsOnBytes isa words input output errors status
     ended_in ended = record {
       outcome = ended.outcome;
       ends = ended.ends;
@@ -122,18 +124,18 @@ on_bytes words input rest output errors status run = record {
     cut_off_in (inl told) = inl (held errors (codes "input\n") told)
     cut_off_in (inr told) = inr (held errors (codes "output\n") told)
 
-    front_in : (a : Option Ask) → IsSomeAnd a (λ ask. BreaksOff ask (Some input) (Some []) (Some output))
-        → IsSomeAnd a (λ ask. BeginsAnswer ask input output)
+    front_in : (a : Option Ask) → IsSomeAnd a (λ ask. BreaksOff isa ask (Some input) (Some []) (Some output))
+        → IsSomeAnd a (λ ask. BeginsAnswer isa ask input output)
     front_in None none = absurd none
     front_in (Some ask) off = record {
       outcome = off.outcome;
       answer = off.answer;
-      is = subst (λ (text : List ℕ). IsAnswer ask off.outcome text off.answer) (sym off.same) off.is;
+      is = subst (λ (text : List ℕ). IsAnswer isa ask off.outcome text off.answer) (sym off.same) off.is;
       front = held output off.answer off.written;
     }
 
     broken_in : Keeps (Some []) (Some output)
-        ⊎ IsSomeAnd (asked words) (λ ask. BreaksOff ask (Some input) (Some []) (Some output))
-        → (output ≡ []) ⊎ IsSomeAnd (asked words) (λ ask. BeginsAnswer ask input output)
+        ⊎ IsSomeAnd (asked words) (λ ask. BreaksOff isa ask (Some input) (Some []) (Some output))
+        → (output ≡ []) ⊎ IsSomeAnd (asked words) (λ ask. BeginsAnswer isa ask input output)
     broken_in (inl kept) = inl kept
     broken_in (inr off) = inr (front_in (asked words) off)

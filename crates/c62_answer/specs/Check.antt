@@ -11,17 +11,18 @@ use Rattle.c62_check.specs.Serial.{AreSerialPackets}
 use Rattle.c62_answer.specs.Message.{fault_message, no_listing, of_listing, of_text}
 use Rattle.c62_answer.specs.Parting.{IsCut, IsParted, HasNoParting}
 use Rattle.c62_answer.specs.Texts.{SaysProgram, SaysPackets, SaysNoPackets, IsNoProgram}
+use Rattle.c62_op.specs.declared.set.InstructionSet.{InstructionSet}
 
 -- The input is a text and packets of this form, and this is told of them, and whether every block is the same. Where it is, the
 -- packets run as the program of the text, from every sound machine and under every limit.
-pub record IsCheck (form : Form) (input : List ℕ) (same : Bool) (answer : List ℕ) : Type 0 where
+pub record IsCheck (isa : InstructionSet) (form : Form) (input : List ℕ) (same : Bool) (answer : List ℕ) : Type 0 where
   pub text : List ℕ
   pub listing : List ℕ
   pub parted : IsParted input text listing
   pub program : List Serial
-  pub says : SaysProgram text program
+  pub says : SaysProgram isa text program
   pub packets : List Packed
-  pub read : SaysPackets form listing packets
+  pub read : SaysPackets isa form listing packets
   pub checked : IsChecked program packets answer same
   pub serial : same ≡ true → AreSerialPackets program packets
 
@@ -38,28 +39,28 @@ pub record IsUnparted (input : List ℕ) : Type 0 where
   pub none : HasNoParting input
 
 -- the text says no program, and its fault is told
-pub record HasFaultyText (input message : List ℕ) : Type 0 where
+pub record HasFaultyText (isa : InstructionSet) (input message : List ℕ) : Type 0 where
   pub text : List ℕ
   pub listing : List ℕ
   pub parted : IsParted input text listing
   pub fault : List ℕ
-  pub refused : IsNoProgram text fault
+  pub refused : IsNoProgram isa text fault
   pub told : message ≡ of_text fault
 
 -- the text says a program, but what stands behind it says no packets, and its fault is told
-pub record HasFaultyListing (form : Form) (input message : List ℕ) : Type 0 where
+pub record HasFaultyListing (isa : InstructionSet) (form : Form) (input message : List ℕ) : Type 0 where
   pub text : List ℕ
   pub listing : List ℕ
   pub parted : IsParted input text listing
   pub program : List Serial
-  pub says : SaysProgram text program
+  pub says : SaysProgram isa text program
   pub fault : List ℕ
-  pub refused : SaysNoPackets form listing fault
+  pub refused : SaysNoPackets isa form listing fault
   pub told : message ≡ of_listing fault
 
 -- nothing can be checked, and the message tells why
-pub data IsNoCheck (form : Form) (input message : List ℕ) : Type 0 where
-  Endless : IsEndless input → message ≡ of_text (fault_message 0 TextTooLong) → IsNoCheck form input message
-  Unparted : IsUnparted input → message ≡ no_listing → IsNoCheck form input message
-  FaultyText : HasFaultyText input message → IsNoCheck form input message
-  FaultyListing : HasFaultyListing form input message → IsNoCheck form input message
+pub data IsNoCheck (isa : InstructionSet) (form : Form) (input message : List ℕ) : Type 0 where
+  Endless : IsEndless input → message ≡ of_text (fault_message 0 TextTooLong) → IsNoCheck isa form input message
+  Unparted : IsUnparted input → message ≡ no_listing → IsNoCheck isa form input message
+  FaultyText : HasFaultyText isa input message → IsNoCheck isa form input message
+  FaultyListing : HasFaultyListing isa form input message → IsNoCheck isa form input message

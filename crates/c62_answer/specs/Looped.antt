@@ -17,15 +17,16 @@ use Rattle.c62_answer.specs.Drawing.{loop_drawing}
 use Rattle.c62_answer.specs.Message.{no_loop, rows_message}
 use Rattle.c62_answer.specs.Schedule.{AreScheduled}
 use Rattle.c62_answer.specs.Texts.{SaysProgram, IsNoProgram}
+use Rattle.c62_op.specs.declared.set.InstructionSet.{InstructionSet}
 
 -- The text says this program, of which each of these labels is a loop's. These packets are written of it: those of its blocks, packed so, with
 -- its loops pipelined where it is told that all is the same with so many trips, and accesses apart from two of these registers.
-pub record IsLooped (packing : Packing) (trips : List (Name × ℕ)) (apart : List Reg) (text : List ℕ) (program : List Serial) (written : Pipelining) : Type 0 where
-  pub says : SaysProgram text program
+pub record IsLooped (isa : InstructionSet) (packing : Packing) (trips : List (Name × ℕ)) (apart : List Reg) (text : List ℕ) (program : List Serial) (written : Pipelining) : Type 0 where
+  pub says : SaysProgram isa text program
   pub named : first_loopless program trips ≡ None
   pub own : List Packed
   pub packed : AreScheduled packing program own
-  pub is : IsWritten trips apart program own written
+  pub is : IsWritten isa trips apart program own written
 
 -- where it is asked for, what became of each loop
 abbrev pub told_lines : (verbose : Bool) → List Serial → Pipelining → List ℕ
@@ -33,40 +34,40 @@ told_lines false program written = []
 told_lines true program written = loop_lines program written
 
 -- such packets, and what is told of the loops
-pub record IsLoopListing (verbose : Bool) (packing : Packing) (trips : List (Name × ℕ)) (apart : List Reg) (told text answer : List ℕ) : Type 0 where
+pub record IsLoopListing (isa : InstructionSet) (verbose : Bool) (packing : Packing) (trips : List (Name × ℕ)) (apart : List Reg) (told text answer : List ℕ) : Type 0 where
   pub program : List Serial
   pub written : Pipelining
-  pub looped : IsLooped packing trips apart text program written
+  pub looped : IsLooped isa packing trips apart text program written
   pub lines : told ≡ told_lines verbose program written
   pub listed : answer ≡ written.text.items
 
 -- the picture of the loops of such packets, drawn so
-pub record IsLoopPicture (drawing : Drawing) (packing : Packing) (trips : List (Name × ℕ)) (apart : List Reg) (text answer : List ℕ) : Type 0 where
+pub record IsLoopPicture (isa : InstructionSet) (drawing : Drawing) (packing : Packing) (trips : List (Name × ℕ)) (apart : List Reg) (text answer : List ℕ) : Type 0 where
   pub program : List Serial
   pub written : Pipelining
-  pub looped : IsLooped packing trips apart text program written
+  pub looped : IsLooped isa packing trips apart text program written
   pub drawn : answer ≡ loop_drawing drawing text program written
 
 -- ---- refusals
 
 -- the text says a program of which the label of these trips is no loop's, and their number is told
-pub record HasLoopless (trips : List (Name × ℕ)) (text message : List ℕ) : Type 0 where
+pub record HasLoopless (isa : InstructionSet) (trips : List (Name × ℕ)) (text message : List ℕ) : Type 0 where
   pub program : List Serial
-  pub says : SaysProgram text program
+  pub says : SaysProgram isa text program
   pub number : ℕ
   pub first : first_loopless program trips ≡ Some number
   pub told : message ≡ no_loop number
 
 -- it says none, or trips are promised of what is no loop
-abbrev pub IsUnlooped : List (Name × ℕ) → List ℕ → List ℕ → Type 0
-IsUnlooped trips text message = IsNoProgram text message ⊎ HasLoopless trips text message
+abbrev pub IsUnlooped : InstructionSet → List (Name × ℕ) → List ℕ → List ℕ → Type 0
+IsUnlooped isa trips text message = IsNoProgram isa text message ⊎ HasLoopless isa trips text message
 
 -- packets are written of the text that aren't read again, and the message tells their fault
-pub record IsUnread (packing : Packing) (trips : List (Name × ℕ)) (apart : List Reg) (text message : List ℕ) : Type 0 where
+pub record IsUnread (isa : InstructionSet) (packing : Packing) (trips : List (Name × ℕ)) (apart : List Reg) (text message : List ℕ) : Type 0 where
   pub program : List Serial
   pub written : Pipelining
-  pub looped : IsLooped packing trips apart text program written
+  pub looped : IsLooped isa packing trips apart text program written
   pub fault : RowsFault
   pub known : fault ≢ NoPlace
-  pub refused : RefusesFrom written.text.items None fault
+  pub refused : RefusesFrom isa written.text.items None fault
   pub told : message ≡ rows_message fault

@@ -6,6 +6,7 @@ use Rattle.c62_printing.specs.Dumping.{dumps}
 use Rattle.c62_serial.specs.State.{Machine}
 use Rattle.c62_answer.specs.declared.outcome.Outcome.{Outcome}
 use Rattle.c62_answer.specs.Run.{IsAnswer}
+use Rattle.c62_op.specs.declared.set.InstructionSet.{InstructionSet}
 
 -- behind the report stand the bytes that these settings write to files, of the machine at the end
 abbrev pub EndsWithMemory : List Given → List ℕ → Type 0
@@ -22,5 +23,5 @@ HasItsMemory (Reaching name ask) answer = HasItsMemory ask answer
 HasItsMemory (Document ask) answer = HasItsMemory ask answer
 HasItsMemory _ answer = Unit {0}
 
-abbrev pub AnswersEndWithMemory : Type 0
-AnswersEndWithMemory = (ask : Ask) (outcome : Outcome) (text answer : List ℕ) → IsAnswer ask outcome text answer → HasItsMemory ask answer
+abbrev pub AnswersEndWithMemory : InstructionSet → Type 0
+AnswersEndWithMemory isa = (ask : Ask) (outcome : Outcome) (text answer : List ℕ) → IsAnswer isa ask outcome text answer → HasItsMemory ask answer

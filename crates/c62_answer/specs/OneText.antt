@@ -6,6 +6,7 @@ use Rattle.c62_packet.specs.Packed.{Packed}
 use Rattle.c62_command.specs.declared.command.Packing.{Packing}
 use Rattle.c62_answer.specs.Schedule.{IsMade, AreScheduled}
 use Rattle.c62_answer.specs.Run.{IsPackedText}
+use Rattle.c62_op.specs.declared.set.InstructionSet.{InstructionSet}
 
 -- the same board, whatever room there is for more entries
 abbrev pub IsSameBoard : BoardState → BoardState → Type 0
@@ -22,7 +23,7 @@ HaveOnePacking packing program =
     packing.turns ≡ true → packing.shortest ≡ false → (one other : List Packed) → AreScheduled packing program one → AreScheduled packing program other → one ≡ other
 
 -- by turns a text has one listing, unless the shortest schedules are asked for
-abbrev pub HasOneText : Packing → List ℕ → Type 0
-HasOneText packing text =
-    packing.turns ≡ true → packing.shortest ≡ false → (one other : List ℕ) → IsPackedText packing text one → IsPackedText packing text other
+abbrev pub HasOneText : InstructionSet → Packing → List ℕ → Type 0
+HasOneText isa packing text =
+    packing.turns ≡ true → packing.shortest ≡ false → (one other : List ℕ) → IsPackedText isa packing text one → IsPackedText isa packing text other
     → one ≡ other

@@ -13,24 +13,25 @@ use Rattle.c62_command.specs.declared.command.Packing.{Packing}
 use Rattle.c62_command.specs.declared.command.Form.TheVariants.{Listed}
 use Rattle.c62_answer.specs.declared.outcome.Outcome.{Outcome}
 use Rattle.c62_answer.specs.Run.{IsPackedText, IsStandingReport}
+use Rattle.c62_op.specs.declared.set.InstructionSet.{InstructionSet}
 
 -- The report of a listing is one of a program, of which these packets were packed: they run as those that are read do, but
 -- for the lines that faulted, which are those of the same places, and leave what the program leaves.
-pub record IsReportOf (program : List Serial) (packets : List Packed) (settings : List Setting) (course : Course) (outcome : Outcome) (answer report : List ℕ)
-    (sim : IsStandingReport Listed settings course outcome answer report) : Type 0 where
+pub record IsReportOf (isa : InstructionSet) (program : List Serial) (packets : List Packed) (settings : List Setting) (course : Course) (outcome : Outcome) (answer report : List ℕ)
+    (sim : IsStandingReport isa Listed settings course outcome answer report) : Type 0 where
   pub same : HaveTheSameChain sim.packets packets sim.reported.opening sim.reported.opening course.blocks sim.reported.chain sim.reported.cycles sim.reported.final
   pub serial : RunsProgram program sim.reported.opening course.blocks sim.reported.chain same.left
 
 -- Packets of a program are read back of their listing: a listing shows them whole, what is read of it are packets that are
 -- alike but for lines, and whatever is reported of it, from some settings and under some limit, is a report of the program.
-pub record AreReadBack (program : List Serial) (packets : List Packed) (answer : List ℕ) : Type 0 where
-  pub shown : AreShown packets
+pub record AreReadBack (isa : InstructionSet) (program : List Serial) (packets : List Packed) (answer : List ℕ) : Type 0 where
+  pub shown : AreShown isa packets
   pub others : List Packed
-  pub read : IsRead answer others
+  pub read : IsRead isa answer others
   pub alike : AreAlike packets others
-  pub reports : (settings : List Setting) (course : Course) (outcome : Outcome) (report : List ℕ) (sim : IsStandingReport Listed settings course outcome answer report)
-      → IsReportOf program packets settings course outcome answer report sim
+  pub reports : (settings : List Setting) (course : Course) (outcome : Outcome) (report : List ℕ) (sim : IsStandingReport isa Listed settings course outcome answer report)
+      → IsReportOf isa program packets settings course outcome answer report sim
 
 -- so it is of what is packed of a text
-abbrev pub IsReadBack : Packing → List ℕ → List ℕ → Type 0
-IsReadBack packing text answer = (packed : IsPackedText packing text answer) → AreReadBack packed.program packed.packets answer
+abbrev pub IsReadBack : InstructionSet → Packing → List ℕ → List ℕ → Type 0
+IsReadBack isa packing text answer = (packed : IsPackedText isa packing text answer) → AreReadBack isa packed.program packed.packets answer

@@ -86,6 +86,7 @@ use Rattle.c62_op.specs.declared.register.Reg.{Reg}
 use Rattle.c62_pipeline.specs.declared.written.Pipelining.{Pipelining}
 use Rattle.c62_printing.specs.Printing.{prints}
 use Rattle.c62_printing.specs.Dumping.{dumps}
+use Rattle.c62_op.specs.declared.set.InstructionSet.{InstructionSet}
 
 abbrev pub status_of : Failure → ℕ
 status_of (Unread _) = 1
@@ -215,17 +216,17 @@ TakesAsked words old new = (ask : Ask) → asked words ≡ Some ask → TakesAtM
 -- ---- answers
 
 -- the text says a program, and this is the listing of its blocks, packed so
-pub record IsPackedText (packing : Packing) (text answer : List ℕ) : Type 0 where
+pub record IsPackedText (isa : InstructionSet) (packing : Packing) (text answer : List ℕ) : Type 0 where
   pub program : List Serial
-  pub says : SaysProgram text program
+  pub says : SaysProgram isa text program
   pub packets : List Packed
   pub packed : AreScheduled packing program packets
   pub listed : answer ≡ listing packets
 
 -- The text says a program, and this is the picture of its blocks, packed so. What its heads tell of shorter schedules is true.
-pub record IsShownText (showing : Showing) (text answer : List ℕ) : Type 0 where
+pub record IsShownText (isa : InstructionSet) (showing : Showing) (text answer : List ℕ) : Type 0 where
   pub program : List Serial
-  pub says : SaysProgram text program
+  pub says : SaysProgram isa text program
   pub shown : List Shown
   pub packed : AreShown showing program shown
   pub bounded : AreBounded program shown
@@ -296,23 +297,23 @@ pub record IsSameReport (program : List Serial) (packets : List Packed) (setting
   pub serial : RunsProgram program reported.opening course.blocks reported.chain reported.final
 
 -- the text says a program, of whose serial run this is the report
-pub record IsSerialReport (settings : List Given) (course : Course) (outcome : Outcome) (text answer : List ℕ) : Type 0 where
+pub record IsSerialReport (isa : InstructionSet) (settings : List Given) (course : Course) (outcome : Outcome) (text answer : List ℕ) : Type 0 where
   pub program : List Serial
-  pub says : SaysProgram text program
+  pub says : SaysProgram isa text program
   pub reported : IsReport program settings course outcome answer
 
 -- the text says a program, and this is the report of a run of its blocks, packed so
-pub record IsRunReport (packing : Packing) (settings : List Given) (course : Course) (outcome : Outcome) (text answer : List ℕ) : Type 0 where
+pub record IsRunReport (isa : InstructionSet) (packing : Packing) (settings : List Given) (course : Course) (outcome : Outcome) (text answer : List ℕ) : Type 0 where
   pub program : List Serial
-  pub says : SaysProgram text program
+  pub says : SaysProgram isa text program
   pub packets : List Packed
   pub packed : AreScheduled packing program packets
   pub reported : IsSameReport program packets settings course outcome answer
 
 -- the text, of this form, says packets, of the run of which as they stand this is the report
-pub record IsStandingReport (form : Form) (settings : List Given) (course : Course) (outcome : Outcome) (text answer : List ℕ) : Type 0 where
+pub record IsStandingReport (isa : InstructionSet) (form : Form) (settings : List Given) (course : Course) (outcome : Outcome) (text answer : List ℕ) : Type 0 where
   pub packets : List Packed
-  pub read : SaysPackets form text packets
+  pub read : SaysPackets isa form text packets
   pub reported : IsPacketReport packets settings course outcome answer
 
 -- where it is asked for, the table of a run with everything in flight, of a text with these labels
@@ -336,39 +337,39 @@ pub record IsFlown (flying : FlightText) (labels : List (Name × ℕ)) (first : 
   pub ends : outcome ≡ outcome_run course.strict (is_flight_limit stop) final.faults
 
 -- the text's code is one of packets, and this is the report of its run with everything in flight
-pub record IsFlightReport (course : FlightCourse) (from : Option Text) (settings : List Given) (outcome : Outcome) (text answer : List ℕ) : Type 0 where
+pub record IsFlightReport (isa : InstructionSet) (course : FlightCourse) (from : Option Text) (settings : List Given) (outcome : Outcome) (text answer : List ℕ) : Type 0 where
   pub flying : FlightText
   pub first : ℕ
-  pub coded : IsCoded text
-  pub begins : IsTextFrom (code_in (code_read text)) from flying first
+  pub coded : IsCoded isa text
+  pub begins : IsTextFrom isa (code_in (code_read isa text)) from flying first
   pub labels : List (Name × ℕ)
-  pub named : IsText (code_in (code_read text)) flying labels
+  pub named : IsText isa (code_in (code_read isa text)) flying labels
   pub flown : IsFlown flying labels first settings course outcome answer
 
 -- Packets are written of the text whose loops are pipelined where so much is promised, and this is the report of their run with everything in
 -- flight; and this is told of the loops, and the run has this that a strict one doesn't take.
-pub record IsLoopReport (verbose : Bool) (packing : Packing) (trips : List (Text × ℕ)) (apart : List Reg) (course : FlightCourse) (settings : List Given) (told : List ℕ) (has : Option Breach) (text answer : List ℕ) : Type 0 where
+pub record IsLoopReport (isa : InstructionSet) (verbose : Bool) (packing : Packing) (trips : List (Text × ℕ)) (apart : List Reg) (course : FlightCourse) (settings : List Given) (told : List ℕ) (has : Option Breach) (text answer : List ℕ) : Type 0 where
   pub program : List Serial
   pub written : Pipelining
-  pub looped : IsLooped packing trips apart text program written
+  pub looped : IsLooped isa packing trips apart text program written
   pub lines : told ≡ told_lines verbose program written
   pub flying : FlightText
   pub first : ℕ
-  pub begins : IsTextFrom written.text.items None flying first
+  pub begins : IsTextFrom isa written.text.items None flying first
   pub outcome : Outcome
   pub flown : IsFlown flying begins.labels first settings course outcome answer
   pub ends : has ≡ breach_of outcome
 
 -- the text is adopted as packets, with so many cycles added to drain it, and this is their listing
-pub record IsAdoptedText (drain : Bool) (added : ℕ) (text answer : List ℕ) : Type 0 where
+pub record IsAdoptedText (isa : InstructionSet) (drain : Bool) (added : ℕ) (text answer : List ℕ) : Type 0 where
   pub packets : List Packed
-  pub adopted : IsAdopted drain text packets added
+  pub adopted : IsAdopted isa drain text packets added
   pub listed : answer ≡ listing packets
 
 -- so it is with these cycles, and this is the first register that the text reads below a block before what lands in it there
-pub record IsDrainedText (added : Added) (text answer : List ℕ) : Type 0 where
-  pub adopted : IsAdoptedText true added.cycles text answer
-  pub late : added.late ≡ first_late (code_cut text)
+pub record IsDrainedText (isa : InstructionSet) (added : Added) (text answer : List ℕ) : Type 0 where
+  pub adopted : IsAdoptedText isa true added.cycles text answer
+  pub late : added.late ≡ first_late (code_cut isa text)
 
 abbrev pub added_of : ℕ → Option Late → Added
 added_of cycles late = record { cycles = cycles; late = late }
@@ -385,27 +386,27 @@ outcome_of false = NotSame
 
 -- What answers a text as text: its listing or its picture, the report of a run, or what a check tells, or such an answer to what is taken of it. A
 -- text is drained only where that is asked for, only of a check not all may be the same, and only a strict run may end otherwise than done.
-abbrev pub IsTextAnswer : Ask → Outcome → List ℕ → List ℕ → Type 0
-IsTextAnswer (Listing packing) Done text answer = IsPackedText packing text answer
-IsTextAnswer (Picture showing) Done text answer = IsShownText showing text answer
-IsTextAnswer (ListingPicture showing) Done text answer = IsShownListing showing text answer
-IsTextAnswer (PacketsPicture showing) Done text answer = IsShownPackets showing text answer
-IsTextAnswer (SerialReport course settings apart) outcome text answer = IsSerialReport settings course outcome text answer
-IsTextAnswer (PacketReport packing course settings) outcome text answer = IsRunReport packing settings course outcome text answer
-IsTextAnswer (StandingReport form course settings) outcome text answer = IsStandingReport form settings course outcome text answer
-IsTextAnswer (FlightReport course from settings) outcome text answer = IsFlightReport course from settings outcome text answer
-IsTextAnswer (Adoption false) Done text answer = IsAdoptedText false 0 text answer
-IsTextAnswer (Adoption true) (Drained added) text answer = IsDrainedText added text answer
-IsTextAnswer (Reaching name ask) outcome text answer = (taken : List ℕ) × IsTaken name text taken × IsTextAnswer ask outcome taken answer
-IsTextAnswer (Verdicts form) Done text answer = IsCheck form text true answer
-IsTextAnswer (Verdicts form) NotSame text answer = IsCheck form text false answer
-IsTextAnswer (LoopVerdicts trips apart) Done text answer = IsLoopCheck trips apart text true answer
-IsTextAnswer (LoopVerdicts trips apart) NotSame text answer = IsLoopCheck trips apart text false answer
-IsTextAnswer (LoopListing verbose packing trips apart) (Looped told None) text answer = IsLoopListing verbose packing trips apart told.items text answer
-IsTextAnswer (LoopPicture drawing packing trips apart) Done text answer = IsLoopPicture drawing packing trips apart text answer
-IsTextAnswer (LoopReport verbose packing trips apart course settings) (Looped told has) text answer =
-    IsLoopReport verbose packing trips apart course settings told.items has text answer
-IsTextAnswer _ _ text answer = ⊥
+abbrev pub IsTextAnswer : InstructionSet → Ask → Outcome → List ℕ → List ℕ → Type 0
+IsTextAnswer isa (Listing packing) Done text answer = IsPackedText isa packing text answer
+IsTextAnswer isa (Picture showing) Done text answer = IsShownText isa showing text answer
+IsTextAnswer isa (ListingPicture showing) Done text answer = IsShownListing isa showing text answer
+IsTextAnswer isa (PacketsPicture showing) Done text answer = IsShownPackets isa showing text answer
+IsTextAnswer isa (SerialReport course settings apart) outcome text answer = IsSerialReport isa settings course outcome text answer
+IsTextAnswer isa (PacketReport packing course settings) outcome text answer = IsRunReport isa packing settings course outcome text answer
+IsTextAnswer isa (StandingReport form course settings) outcome text answer = IsStandingReport isa form settings course outcome text answer
+IsTextAnswer isa (FlightReport course from settings) outcome text answer = IsFlightReport isa course from settings outcome text answer
+IsTextAnswer isa (Adoption false) Done text answer = IsAdoptedText isa false 0 text answer
+IsTextAnswer isa (Adoption true) (Drained added) text answer = IsDrainedText isa added text answer
+IsTextAnswer isa (Reaching name ask) outcome text answer = (taken : List ℕ) × IsTaken isa name text taken × IsTextAnswer isa ask outcome taken answer
+IsTextAnswer isa (Verdicts form) Done text answer = IsCheck isa form text true answer
+IsTextAnswer isa (Verdicts form) NotSame text answer = IsCheck isa form text false answer
+IsTextAnswer isa (LoopVerdicts trips apart) Done text answer = IsLoopCheck isa trips apart text true answer
+IsTextAnswer isa (LoopVerdicts trips apart) NotSame text answer = IsLoopCheck isa trips apart text false answer
+IsTextAnswer isa (LoopListing verbose packing trips apart) (Looped told None) text answer = IsLoopListing isa verbose packing trips apart told.items text answer
+IsTextAnswer isa (LoopPicture drawing packing trips apart) Done text answer = IsLoopPicture isa drawing packing trips apart text answer
+IsTextAnswer isa (LoopReport verbose packing trips apart course settings) (Looped told has) text answer =
+    IsLoopReport isa verbose packing trips apart course settings told.items has text answer
+IsTextAnswer isa _ _ text answer = ⊥
 
 -- ---- documents
 
@@ -481,88 +482,88 @@ drained_told true added = Some (drained_of added)
 
 -- The document of an answer (docs/JSON.md). It tells what the text of the same answer tells: both are of one record. Of packets in flight
 -- that aren't run it has the lines of the text.
-abbrev pub Documents : (ask : Ask) (outcome : Outcome) (text told : List ℕ) → IsTextAnswer ask outcome text told → (answer : List ℕ) → Type 0
-Documents (Listing packing) Done text told is answer = answer ≡ document (codes "pack") (blocks_member is.packets)
-Documents (Picture showing) Done text told is answer = answer ≡ document (codes "show") (shown_members showing.summary is.shown)
-Documents (ListingPicture showing) Done text told is answer = answer ≡ document (codes "show") (shown_members showing.summary is.drawn.shown)
-Documents (PacketsPicture showing) Done text told is answer = answer ≡ document (codes "show") (shown_members showing.summary is.drawn.shown)
-Documents (SerialReport course settings apart) outcome text told is answer =
+abbrev pub Documents : (isa : InstructionSet) (ask : Ask) (outcome : Outcome) (text told : List ℕ) → IsTextAnswer isa ask outcome text told → (answer : List ℕ) → Type 0
+Documents isa (Listing packing) Done text told is answer = answer ≡ document (codes "pack") (blocks_member is.packets)
+Documents isa (Picture showing) Done text told is answer = answer ≡ document (codes "show") (shown_members showing.summary is.shown)
+Documents isa (ListingPicture showing) Done text told is answer = answer ≡ document (codes "show") (shown_members showing.summary is.drawn.shown)
+Documents isa (PacketsPicture showing) Done text told is answer = answer ≡ document (codes "show") (shown_members showing.summary is.drawn.shown)
+Documents isa (SerialReport course settings apart) outcome text told is answer =
     IsSerialDocument is.program settings course outcome told is.reported answer
-Documents (PacketReport packing course settings) outcome text told is answer =
+Documents isa (PacketReport packing course settings) outcome text told is answer =
     IsPacketDocument (codes "run") is.packets settings course outcome told is.reported.reported answer
-Documents (StandingReport form course settings) outcome text told is answer =
+Documents isa (StandingReport form course settings) outcome text told is answer =
     IsPacketDocument (codes "sim") is.packets settings course outcome told is.reported answer
-Documents (FlightReport course from settings) outcome text told is answer =
+Documents isa (FlightReport course from settings) outcome text told is answer =
     IsFlightDocument (codes "exec") is.flying is.labels is.first settings course outcome told is.flown answer
-Documents (Adoption false) Done text told is answer = answer ≡ document (codes "adopt") (adopted_members None is.packets)
-Documents (Adoption true) (Drained added) text told is answer = answer ≡ document (codes "adopt") (adopted_members (Some (drained_of added)) is.adopted.packets)
-Documents (Reaching name ask) outcome text told is answer = Documents ask outcome is.0 told is.2 answer
-Documents (Verdicts form) Done text told is answer = IsCheckDocument is.program is.packets answer true
-Documents (Verdicts form) NotSame text told is answer = IsCheckDocument is.program is.packets answer false
-Documents (LoopVerdicts trips apart) Done text told is answer = IsLoopsDocument trips apart is.program is.packets answer true is.plain
-Documents (LoopVerdicts trips apart) NotSame text told is answer = IsLoopsDocument trips apart is.program is.packets answer false is.plain
-Documents (LoopListing verbose packing trips apart) outcome text told is answer = answer ≡ lines_document (codes "pack") told
-Documents (LoopPicture drawing packing trips apart) outcome text told is answer = answer ≡ lines_document (codes "show") told
-Documents (LoopReport verbose packing trips apart course settings) (Looped lines has) text told is answer =
+Documents isa (Adoption false) Done text told is answer = answer ≡ document (codes "adopt") (adopted_members None is.packets)
+Documents isa (Adoption true) (Drained added) text told is answer = answer ≡ document (codes "adopt") (adopted_members (Some (drained_of added)) is.adopted.packets)
+Documents isa (Reaching name ask) outcome text told is answer = Documents isa ask outcome is.0 told is.2 answer
+Documents isa (Verdicts form) Done text told is answer = IsCheckDocument is.program is.packets answer true
+Documents isa (Verdicts form) NotSame text told is answer = IsCheckDocument is.program is.packets answer false
+Documents isa (LoopVerdicts trips apart) Done text told is answer = IsLoopsDocument trips apart is.program is.packets answer true is.plain
+Documents isa (LoopVerdicts trips apart) NotSame text told is answer = IsLoopsDocument trips apart is.program is.packets answer false is.plain
+Documents isa (LoopListing verbose packing trips apart) outcome text told is answer = answer ≡ lines_document (codes "pack") told
+Documents isa (LoopPicture drawing packing trips apart) outcome text told is answer = answer ≡ lines_document (codes "show") told
+Documents isa (LoopReport verbose packing trips apart course settings) (Looped lines has) text told is answer =
     IsFlightDocument (codes "run") is.flying is.begins.labels is.first settings course is.outcome told is.flown answer
-Documents _ _ text told is answer = ⊥
+Documents isa _ _ text told is answer = ⊥
 
 -- What answers a text: that text, or its document.
-abbrev pub IsAnswer : Ask → Outcome → List ℕ → List ℕ → Type 0
-IsAnswer (Document ask) outcome text answer =
-    (told : List ℕ) × (is : IsTextAnswer ask outcome text told) × Documents ask outcome text told is answer
-IsAnswer (Reaching name ask) outcome text answer = (taken : List ℕ) × IsTaken name text taken × IsAnswer ask outcome taken answer
-IsAnswer ask outcome text answer = IsTextAnswer ask outcome text answer
+abbrev pub IsAnswer : InstructionSet → Ask → Outcome → List ℕ → List ℕ → Type 0
+IsAnswer isa (Document ask) outcome text answer =
+    (told : List ℕ) × (is : IsTextAnswer isa ask outcome text told) × Documents isa ask outcome text told is answer
+IsAnswer isa (Reaching name ask) outcome text answer = (taken : List ℕ) × IsTaken isa name text taken × IsAnswer isa ask outcome taken answer
+IsAnswer isa ask outcome text answer = IsTextAnswer isa ask outcome text answer
 
 -- ---- refusals
 
 -- the text says nothing that could be answered, and the message tells its fault
-abbrev pub IsRefusedText : Ask → List ℕ → List ℕ → Type 0
-IsRefusedText (ListingPicture showing) text message = IsNoListing text message
-IsRefusedText (PacketsPicture showing) text message = IsNoPackets false text message
-IsRefusedText (StandingReport form course settings) text message = SaysNoPackets form text message
-IsRefusedText (FlightReport course from settings) text message = IsNoFlight from text message
-IsRefusedText (Adoption drain) text message = IsNoPackets drain text message
-IsRefusedText (Reaching name ask) text message = IsUnreached name text message ⊎ ((taken : List ℕ) × IsTaken name text taken × IsRefusedText ask taken message)
-IsRefusedText (Document ask) text message = IsRefusedText ask text message
-IsRefusedText (Verdicts form) text message = IsNoCheck form text message
-IsRefusedText (LoopVerdicts trips apart) text message = IsNoLoopCheck trips text message
-IsRefusedText (LoopListing verbose packing trips apart) text message = IsUnlooped trips text message
-IsRefusedText (LoopPicture drawing packing trips apart) text message = IsUnlooped trips text message
-IsRefusedText (LoopReport verbose packing trips apart course settings) text message =
-    IsUnlooped trips text message ⊎ IsUnread packing trips apart text message
-IsRefusedText _ text message = IsNoProgram text message
+abbrev pub IsRefusedText : InstructionSet → Ask → List ℕ → List ℕ → Type 0
+IsRefusedText isa (ListingPicture showing) text message = IsNoListing isa text message
+IsRefusedText isa (PacketsPicture showing) text message = IsNoPackets isa false text message
+IsRefusedText isa (StandingReport form course settings) text message = SaysNoPackets isa form text message
+IsRefusedText isa (FlightReport course from settings) text message = IsNoFlight isa from text message
+IsRefusedText isa (Adoption drain) text message = IsNoPackets isa drain text message
+IsRefusedText isa (Reaching name ask) text message = IsUnreached isa name text message ⊎ ((taken : List ℕ) × IsTaken isa name text taken × IsRefusedText isa ask taken message)
+IsRefusedText isa (Document ask) text message = IsRefusedText isa ask text message
+IsRefusedText isa (Verdicts form) text message = IsNoCheck isa form text message
+IsRefusedText isa (LoopVerdicts trips apart) text message = IsNoLoopCheck isa trips text message
+IsRefusedText isa (LoopListing verbose packing trips apart) text message = IsUnlooped isa trips text message
+IsRefusedText isa (LoopPicture drawing packing trips apart) text message = IsUnlooped isa trips text message
+IsRefusedText isa (LoopReport verbose packing trips apart course settings) text message =
+    IsUnlooped isa trips text message ⊎ IsUnread isa packing trips apart text message
+IsRefusedText isa _ text message = IsNoProgram isa text message
 
 -- ---- streams
 
 -- What was asked for was done: the answer to a text was written, which is the known one, where one is known.
-pub record Does (ask : Ask) (outcome : Outcome) (known old new : Option (List ℕ)) : Type 0 where
+pub record Does (isa : InstructionSet) (ask : Ask) (outcome : Outcome) (known old new : Option (List ℕ)) : Type 0 where
   pub text : List ℕ
   pub same : IfSome known (λ bytes. bytes ≡ text)
   pub answer : List ℕ
-  pub is : IsAnswer ask outcome text answer
+  pub is : IsAnswer isa ask outcome text answer
   pub written : Appends old new answer
 
 -- What was asked for was not done as the output took no more: what was written is a front of the answer.
-pub record BreaksOff (ask : Ask) (known old new : Option (List ℕ)) : Type 0 where
+pub record BreaksOff (isa : InstructionSet) (ask : Ask) (known old new : Option (List ℕ)) : Type 0 where
   pub text : List ℕ
   pub same : IfSome known (λ bytes. bytes ≡ text)
   pub outcome : Outcome
   pub answer : List ℕ
-  pub is : IsAnswer ask outcome text answer
+  pub is : IsAnswer isa ask outcome text answer
   pub written : Tells old new answer
 
 -- the words ask for something, and that was done
-abbrev pub IsDone : List Text → Outcome → Option (List ℕ) → Option (List ℕ) → Option (List ℕ) → Type 0
-IsDone words outcome text old new = IsSomeAnd (asked words) (λ ask. Does ask outcome text old new)
+abbrev pub IsDone : InstructionSet → List Text → Outcome → Option (List ℕ) → Option (List ℕ) → Option (List ℕ) → Type 0
+IsDone isa words outcome text old new = IsSomeAnd (asked words) (λ ask. Does isa ask outcome text old new)
 
 -- the text is refused, where it is known, and the message tells its fault
-abbrev pub IsRefused : Ask → Option (List ℕ) → List ℕ → Type 0
-IsRefused ask text message = IfSome text (λ bytes. IsRefusedText ask bytes message)
+abbrev pub IsRefused : InstructionSet → Ask → Option (List ℕ) → List ℕ → Type 0
+IsRefused isa ask text message = IfSome text (λ bytes. IsRefusedText isa ask bytes message)
 
 -- what is asked for is asked of a text that is refused, and the message tells its fault
-abbrev pub AsksInVain : Option Ask → Option (List ℕ) → List ℕ → Type 0
-AsksInVain asked text message = IsSomeAnd asked (λ ask. IsRefused ask text message)
+abbrev pub AsksInVain : InstructionSet → Option Ask → Option (List ℕ) → List ℕ → Type 0
+AsksInVain isa asked text message = IsSomeAnd asked (λ ask. IsRefused isa ask text message)
 
 -- a setting is bad, and the message tells its number
 abbrev pub IsBadSetting : List Text → List ℕ → Type 0
@@ -588,92 +589,92 @@ abbrev pub Blames : Failure → List Text → Type 0
 Blames failure words = (error : CommandError) × IsCommandFailure error failure × IsRefusal error words
 
 -- the program that a text says, or its fault, unless memory ran out
-abbrev pub GivesProgram : List ℕ → Result (List Serial) Failure → Type 0
-GivesProgram text (Ok program) = SaysProgram text program
-GivesProgram text (Err (Unread fault)) = IsNoProgram text (fault_message fault.line fault.cause)
-GivesProgram text (Err Memory) = Unit {0}
-GivesProgram text (Err _) = ⊥
+abbrev pub GivesProgram : InstructionSet → List ℕ → Result (List Serial) Failure → Type 0
+GivesProgram isa text (Ok program) = SaysProgram isa text program
+GivesProgram isa text (Err (Unread fault)) = IsNoProgram isa text (fault_message fault.line fault.cause)
+GivesProgram isa text (Err Memory) = Unit {0}
+GivesProgram isa text (Err _) = ⊥
 
 -- the packets that a text of this form says, or its fault, unless memory ran out
-abbrev pub GivesPackets : Form → List ℕ → Result (List Packed) Failure → Type 0
-GivesPackets form text (Ok packets) = SaysPackets form text packets
-GivesPackets form text (Err (Unlisted fault)) = SaysNoPackets form text (list_message fault)
-GivesPackets form text (Err (Unadopted fault)) = SaysNoPackets form text (adopt_message fault)
-GivesPackets form text (Err Memory) = Unit {0}
-GivesPackets form text (Err _) = ⊥
+abbrev pub GivesPackets : InstructionSet → Form → List ℕ → Result (List Packed) Failure → Type 0
+GivesPackets isa form text (Ok packets) = SaysPackets isa form text packets
+GivesPackets isa form text (Err (Unlisted fault)) = SaysNoPackets isa form text (list_message fault)
+GivesPackets isa form text (Err (Unadopted fault)) = SaysNoPackets isa form text (adopt_message fault)
+GivesPackets isa form text (Err Memory) = Unit {0}
+GivesPackets isa form text (Err _) = ⊥
 
 -- the program that the text of a check says, or its fault, unless memory ran out
-abbrev pub GivesTextPart : List ℕ → Result (List Serial) Failure → Type 0
-GivesTextPart text (Ok program) = SaysProgram text program
-GivesTextPart text (Err (TextPart fault)) = IsNoProgram text (fault_message fault.line fault.cause)
-GivesTextPart text (Err Memory) = Unit {0}
-GivesTextPart text (Err _) = ⊥
+abbrev pub GivesTextPart : InstructionSet → List ℕ → Result (List Serial) Failure → Type 0
+GivesTextPart isa text (Ok program) = SaysProgram isa text program
+GivesTextPart isa text (Err (TextPart fault)) = IsNoProgram isa text (fault_message fault.line fault.cause)
+GivesTextPart isa text (Err Memory) = Unit {0}
+GivesTextPart isa text (Err _) = ⊥
 
 -- the packets that are to be checked, in this form, or their fault, unless memory ran out
-abbrev pub GivesPacketsPart : Form → List ℕ → Result (List Packed) Failure → Type 0
-GivesPacketsPart form text (Ok packets) = SaysPackets form text packets
-GivesPacketsPart form text (Err (ListingPart fault)) = SaysNoPackets form text (list_message fault)
-GivesPacketsPart form text (Err (PacketsPart fault)) = SaysNoPackets form text (adopt_message fault)
-GivesPacketsPart form text (Err Memory) = Unit {0}
-GivesPacketsPart form text (Err _) = ⊥
+abbrev pub GivesPacketsPart : InstructionSet → Form → List ℕ → Result (List Packed) Failure → Type 0
+GivesPacketsPart isa form text (Ok packets) = SaysPackets isa form text packets
+GivesPacketsPart isa form text (Err (ListingPart fault)) = SaysNoPackets isa form text (list_message fault)
+GivesPacketsPart isa form text (Err (PacketsPart fault)) = SaysNoPackets isa form text (adopt_message fault)
+GivesPacketsPart isa form text (Err Memory) = Unit {0}
+GivesPacketsPart isa form text (Err _) = ⊥
 
 -- the rows of the packets that are to be checked in flight, or their fault, unless memory ran out
-abbrev pub GivesRowsPart : List ℕ → Result RowsText Failure → Type 0
-GivesRowsPart text (Ok read) = IsFlying text (text_of read.rows)
-GivesRowsPart text (Err (PacketsPart fault)) = IsNoFlight None text (adopt_message fault)
-GivesRowsPart text (Err (RowsPart fault)) = IsNoFlight None text (rows_message fault)
-GivesRowsPart text (Err Memory) = Unit {0}
-GivesRowsPart text (Err _) = ⊥
+abbrev pub GivesRowsPart : InstructionSet → List ℕ → Result RowsText Failure → Type 0
+GivesRowsPart isa text (Ok read) = IsFlying isa text (text_of read.rows)
+GivesRowsPart isa text (Err (PacketsPart fault)) = IsNoFlight isa None text (adopt_message fault)
+GivesRowsPart isa text (Err (RowsPart fault)) = IsNoFlight isa None text (rows_message fault)
+GivesRowsPart isa text (Err Memory) = Unit {0}
+GivesRowsPart isa text (Err _) = ⊥
 
 -- a text says no program of which these labels are loops', unless memory ran out
-abbrev pub RefusesLooped : List (Text × ℕ) → List ℕ → Failure → Type 0
-RefusesLooped trips text (Unread fault) = IsUnlooped trips text (fault_message fault.line fault.cause)
-RefusesLooped trips text (NoLoop number) = IsUnlooped trips text (no_loop number)
-RefusesLooped trips text Memory = Unit {0}
-RefusesLooped trips text _ = ⊥
+abbrev pub RefusesLooped : InstructionSet → List (Text × ℕ) → List ℕ → Failure → Type 0
+RefusesLooped isa trips text (Unread fault) = IsUnlooped isa trips text (fault_message fault.line fault.cause)
+RefusesLooped isa trips text (NoLoop number) = IsUnlooped isa trips text (no_loop number)
+RefusesLooped isa trips text Memory = Unit {0}
+RefusesLooped isa trips text _ = ⊥
 
 -- nothing is taken of a text from the label of this name on, as no line has it, unless memory ran out
-abbrev pub TakesNothing : (name text : List ℕ) → Failure → Type 0
-TakesNothing name text (Unflown fault) = IsUnreached name text (rows_message fault)
-TakesNothing name text Memory = Unit {0}
-TakesNothing name text _ = ⊥
+abbrev pub TakesNothing : InstructionSet → (name text : List ℕ) → Failure → Type 0
+TakesNothing isa name text (Unflown fault) = IsUnreached isa name text (rows_message fault)
+TakesNothing isa name text Memory = Unit {0}
+TakesNothing isa name text _ = ⊥
 
 -- the answer to a text, or its fault, unless memory ran out
-abbrev pub Gives : Ask → List ℕ → Result Reply Failure → Type 0
-Gives ask text (Ok reply) = IsAnswer ask reply.outcome text reply.text.items
-Gives ask text (Err (Unread fault)) = IsRefusedText ask text (fault_message fault.line fault.cause)
-Gives ask text (Err (Unlisted fault)) = IsRefusedText ask text (list_message fault)
-Gives ask text (Err (Unadopted fault)) = IsRefusedText ask text (adopt_message fault)
-Gives ask text (Err (Unflown fault)) = IsRefusedText ask text (rows_message fault)
-Gives ask text (Err (TextPart fault)) = IsRefusedText ask text (of_text (fault_message fault.line fault.cause))
-Gives ask text (Err (ListingPart fault)) = IsRefusedText ask text (of_listing (list_message fault))
-Gives ask text (Err (PacketsPart fault)) = IsRefusedText ask text (of_listing (adopt_message fault))
-Gives ask text (Err (RowsPart fault)) = IsRefusedText ask text (of_listing (rows_message fault))
-Gives ask text (Err NoListing) = IsRefusedText ask text no_listing
-Gives ask text (Err (NoLoop number)) = IsRefusedText ask text (no_loop number)
-Gives ask text (Err Memory) = Unit {0}
-Gives ask text (Err _) = ⊥
+abbrev pub Gives : InstructionSet → Ask → List ℕ → Result Reply Failure → Type 0
+Gives isa ask text (Ok reply) = IsAnswer isa ask reply.outcome text reply.text.items
+Gives isa ask text (Err (Unread fault)) = IsRefusedText isa ask text (fault_message fault.line fault.cause)
+Gives isa ask text (Err (Unlisted fault)) = IsRefusedText isa ask text (list_message fault)
+Gives isa ask text (Err (Unadopted fault)) = IsRefusedText isa ask text (adopt_message fault)
+Gives isa ask text (Err (Unflown fault)) = IsRefusedText isa ask text (rows_message fault)
+Gives isa ask text (Err (TextPart fault)) = IsRefusedText isa ask text (of_text (fault_message fault.line fault.cause))
+Gives isa ask text (Err (ListingPart fault)) = IsRefusedText isa ask text (of_listing (list_message fault))
+Gives isa ask text (Err (PacketsPart fault)) = IsRefusedText isa ask text (of_listing (adopt_message fault))
+Gives isa ask text (Err (RowsPart fault)) = IsRefusedText isa ask text (of_listing (rows_message fault))
+Gives isa ask text (Err NoListing) = IsRefusedText isa ask text no_listing
+Gives isa ask text (Err (NoLoop number)) = IsRefusedText isa ask text (no_loop number)
+Gives isa ask text (Err Memory) = Unit {0}
+Gives isa ask text (Err _) = ⊥
 
 -- Why what is asked for was not done. Where the output failed, a front of the answer was written.
-abbrev pub Fails : Ask → Option (List ℕ) → Option (List ℕ) → Option (List ℕ) → Failure → Type 0
-Fails ask text old new (Unread fault) = IsRefused ask text (fault_message fault.line fault.cause) × Keeps old new
-Fails ask text old new (Unlisted fault) = IsRefused ask text (list_message fault) × Keeps old new
-Fails ask text old new (Unadopted fault) = IsRefused ask text (adopt_message fault) × Keeps old new
-Fails ask text old new (Unflown fault) = IsRefused ask text (rows_message fault) × Keeps old new
-Fails ask text old new (TextPart fault) = IsRefused ask text (of_text (fault_message fault.line fault.cause)) × Keeps old new
-Fails ask text old new (ListingPart fault) = IsRefused ask text (of_listing (list_message fault)) × Keeps old new
-Fails ask text old new (PacketsPart fault) = IsRefused ask text (of_listing (adopt_message fault)) × Keeps old new
-Fails ask text old new (RowsPart fault) = IsRefused ask text (of_listing (rows_message fault)) × Keeps old new
-Fails ask text old new NoListing = IsRefused ask text no_listing × Keeps old new
-Fails ask text old new (NoLoop number) = IsRefused ask text (no_loop number) × Keeps old new
-Fails ask text old new Memory = Keeps old new
-Fails ask text old new Input = Keeps old new
-Fails ask text old new Output = BreaksOff ask text old new
-Fails ask text old new _ = ⊥
+abbrev pub Fails : InstructionSet → Ask → Option (List ℕ) → Option (List ℕ) → Option (List ℕ) → Failure → Type 0
+Fails isa ask text old new (Unread fault) = IsRefused isa ask text (fault_message fault.line fault.cause) × Keeps old new
+Fails isa ask text old new (Unlisted fault) = IsRefused isa ask text (list_message fault) × Keeps old new
+Fails isa ask text old new (Unadopted fault) = IsRefused isa ask text (adopt_message fault) × Keeps old new
+Fails isa ask text old new (Unflown fault) = IsRefused isa ask text (rows_message fault) × Keeps old new
+Fails isa ask text old new (TextPart fault) = IsRefused isa ask text (of_text (fault_message fault.line fault.cause)) × Keeps old new
+Fails isa ask text old new (ListingPart fault) = IsRefused isa ask text (of_listing (list_message fault)) × Keeps old new
+Fails isa ask text old new (PacketsPart fault) = IsRefused isa ask text (of_listing (adopt_message fault)) × Keeps old new
+Fails isa ask text old new (RowsPart fault) = IsRefused isa ask text (of_listing (rows_message fault)) × Keeps old new
+Fails isa ask text old new NoListing = IsRefused isa ask text no_listing × Keeps old new
+Fails isa ask text old new (NoLoop number) = IsRefused isa ask text (no_loop number) × Keeps old new
+Fails isa ask text old new Memory = Keeps old new
+Fails isa ask text old new Input = Keeps old new
+Fails isa ask text old new Output = BreaksOff isa ask text old new
+Fails isa ask text old new _ = ⊥
 
 -- Why a run failed: the words ask for nothing, or what they ask for was not done.
-abbrev pub HasFailed : List Text → Option (List ℕ) → Option (List ℕ) → Option (List ℕ) → Failure → Type 0
-HasFailed words text old new f = (Blames f words × Keeps old new) ⊎ IsSomeAnd (asked words) (λ ask. Fails ask text old new f)
+abbrev pub HasFailed : InstructionSet → List Text → Option (List ℕ) → Option (List ℕ) → Option (List ℕ) → Failure → Type 0
+HasFailed isa words text old new f = (Blames f words × Keeps old new) ⊎ IsSomeAnd (asked words) (λ ask. Fails isa ask text old new f)
 
 -- ---- a whole run
 
@@ -689,21 +690,21 @@ streams input output errors = record { input = input; output = output; errors = 
 
 -- How a run ends that is done: what the words ask for was written, and told is only how many cycles were added where a text
 -- was drained.
-pub record Ends (Told : Telling) (words : List Text) (old new : Streams) (status : ℕ) : Type 0 where
+pub record Ends (isa : InstructionSet) (Told : Telling) (words : List Text) (old new : Streams) (status : ℕ) : Type 0 where
   pub outcome : Outcome
   pub ends : status ≡ status_done outcome
-  pub done : IsDone words outcome old.input old.output new.output
+  pub done : IsDone isa words outcome old.input old.output new.output
   pub told : TellsOutcome Told outcome old.errors new.errors
 
 -- What a run on these words does to its streams, and the status that it ends with, where what is told is told so (README.md,
 -- "Command line").
-pub record IsRunBy (Told : Telling) (words : List Text) (old new : Streams) (status : ℕ) : Type 0 where
+pub record IsRunBy (isa : InstructionSet) (Told : Telling) (words : List Text) (old new : Streams) (status : ℕ) : Type 0 where
   pub known : status ≤ 7
   -- What the words ask for was written. On 5 that is what a check tells, and some block or loop isn't the same. On 6 and 7 it is the report
   -- of a strict run, which ended by its limit or in which an access faulted.
-  pub done : (status ≡ 0) ⊎ (5 ≤ status) → Ends Told words old new status
+  pub done : (status ≡ 0) ⊎ (5 ≤ status) → Ends isa Told words old new status
   -- The text is refused, and its fault is told.
-  pub refused : status ≡ 1 → TellsOf Told (AsksInVain (asked words) old.input) old.errors new.errors
+  pub refused : status ≡ 1 → TellsOf Told (AsksInVain isa (asked words) old.input) old.errors new.errors
   -- The words are refused. Words, settings and promises are judged first: where they ask for nothing, nothing is read.
   pub blamed : status ≡ 2 → AsksNothing Told words old.errors new.errors
   pub judged : asked words ≡ None → (status ≡ 2) ⊎ (status ≡ 3)
@@ -711,37 +712,37 @@ pub record IsRunBy (Told : Telling) (words : List Text) (old new : Streams) (sta
   -- Memory ran out, or a stream failed. Where that was the output, a front of the answer is written.
   pub memory : status ≡ 3 → Told old.errors new.errors (codes "memory\n")
   pub stream : status ≡ 4 → Told old.errors new.errors (codes "input\n") ⊎ Told old.errors new.errors (codes "output\n")
-  pub broken : status ≡ 4 → Keeps old.output new.output ⊎ IsSomeAnd (asked words) (λ ask. BreaksOff ask old.input old.output new.output)
+  pub broken : status ≡ 4 → Keeps old.output new.output ⊎ IsSomeAnd (asked words) (λ ask. BreaksOff isa ask old.input old.output new.output)
   -- Nothing is written but an answer, and one byte past the limit of a text is the last that is read.
   pub quiet : 0 < status → status < 4 → Keeps old.output new.output
   pub most : TakesAsked words old.input new.input
 
 -- the same, where what is told is told whole, or the front of it that the stream took
-abbrev pub IsRun : List Text → Streams → Streams → ℕ → Type 0
-IsRun words old new status = IsRunBy Tells words old new status
+abbrev pub IsRun : InstructionSet → List Text → Streams → Streams → ℕ → Type 0
+IsRun isa words old new status = IsRunBy isa Tells words old new status
 
 -- the output is a front of an answer to these bytes
-pub record BeginsAnswer (ask : Ask) (input output : List ℕ) : Type 0 where
+pub record BeginsAnswer (isa : InstructionSet) (ask : Ask) (input output : List ℕ) : Type 0 where
   pub outcome : Outcome
   pub answer : List ℕ
-  pub is : IsAnswer ask outcome input answer
+  pub is : IsAnswer isa ask outcome input answer
   pub front : IsFront output answer
 
 -- how a run ends that is done, on these bytes
-pub record EndsOnBytes (words : List Text) (input output errors : List ℕ) (status : ℕ) : Type 0 where
+pub record EndsOnBytes (isa : InstructionSet) (words : List Text) (input output errors : List ℕ) (status : ℕ) : Type 0 where
   pub outcome : Outcome
   pub ends : status ≡ status_done outcome
-  pub done : IsSomeAnd (asked words) (λ ask. IsAnswer ask outcome input output)
+  pub done : IsSomeAnd (asked words) (λ ask. IsAnswer isa ask outcome input output)
   pub told : IsToldOf outcome errors
 
 -- what a run does to these bytes, which wrote these to its output and its error stream
-pub record IsRunOnBytes (words : List Text) (input output errors : List ℕ) (status : ℕ) : Type 0 where
+pub record IsRunOnBytes (isa : InstructionSet) (words : List Text) (input output errors : List ℕ) (status : ℕ) : Type 0 where
   pub known : status ≤ 7
-  pub done : (status ≡ 0) ⊎ (5 ≤ status) → EndsOnBytes words input output errors status
-  pub refused : status ≡ 1 → (message : List ℕ) × IsSomeAnd (asked words) (λ ask. IsRefusedText ask input message) × IsFront errors message
+  pub done : (status ≡ 0) ⊎ (5 ≤ status) → EndsOnBytes isa words input output errors status
+  pub refused : status ≡ 1 → (message : List ℕ) × IsSomeAnd (asked words) (λ ask. IsRefusedText isa ask input message) × IsFront errors message
   pub blamed : status ≡ 2 → IsUnknown words ⊎ ((message : List ℕ) × IsBadWord words message × IsFront errors message)
   pub judged : asked words ≡ None → (status ≡ 2) ⊎ (status ≡ 3)
   pub memory : status ≡ 3 → IsFront errors (codes "memory\n")
   pub stream : status ≡ 4 → IsFront errors (codes "input\n") ⊎ IsFront errors (codes "output\n")
-  pub broken : status ≡ 4 → (output ≡ []) ⊎ IsSomeAnd (asked words) (λ ask. BeginsAnswer ask input output)
+  pub broken : status ≡ 4 → (output ≡ []) ⊎ IsSomeAnd (asked words) (λ ask. BeginsAnswer isa ask input output)
   pub quiet : 0 < status → status < 4 → output ≡ []

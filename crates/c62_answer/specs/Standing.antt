@@ -9,6 +9,7 @@ use Rattle.c62_standing.specs.declared.standing.Details.{Details}
 use Rattle.c62_standing.specs.Standing.{IsStanding}
 use Rattle.c62_command.specs.declared.command.Showing.{Showing}
 use Rattle.c62_answer.specs.Drawing.{drawing}
+use Rattle.c62_op.specs.declared.set.InstructionSet.{InstructionSet}
 
 -- what is told of packets beside their picture
 abbrev pub details_of : Showing → Details
@@ -22,13 +23,13 @@ pub record IsDrawn (showing : Showing) (packets : List Packed) (text answer : Li
   pub drawn : answer ≡ drawing showing text shown
 
 -- the text is a listing, and this the picture of its packets
-pub record IsShownListing (showing : Showing) (text answer : List ℕ) : Type 0 where
+pub record IsShownListing (isa : InstructionSet) (showing : Showing) (text answer : List ℕ) : Type 0 where
   pub packets : List Packed
-  pub read : IsRead text packets
+  pub read : IsRead isa text packets
   pub drawn : IsDrawn showing packets text answer
 
 -- the text is adopted as packets as it stands, and this is their picture
-pub record IsShownPackets (showing : Showing) (text answer : List ℕ) : Type 0 where
+pub record IsShownPackets (isa : InstructionSet) (showing : Showing) (text answer : List ℕ) : Type 0 where
   pub packets : List Packed
-  pub adopted : IsAdopted false text packets 0
+  pub adopted : IsAdopted isa false text packets 0
   pub drawn : IsDrawn showing packets text answer

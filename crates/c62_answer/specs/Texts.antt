@@ -18,58 +18,59 @@ use Rattle.c62_reach.specs.Taken.{Lacks}
 use Rattle.c62_command.specs.declared.command.Form.{Form}
 use Rattle.c62_command.specs.declared.command.Form.TheVariants.{Listed, Written}
 use Rattle.c62_answer.specs.Message.{adopt_message, fault_message, list_message, rows_message}
+use Rattle.c62_op.specs.declared.set.InstructionSet.{InstructionSet}
 
 -- the text says a program
-abbrev pub SaysProgram : List ℕ → List Serial → Type 0
-SaysProgram text program = program_in text ≡ Ok (map block_parts program)
+abbrev pub SaysProgram : InstructionSet → List ℕ → List Serial → Type 0
+SaysProgram isa text program = program_in isa text ≡ Ok (map block_parts program)
 
 -- the text says no program, and the message tells its fault
-abbrev pub IsNoProgram : List ℕ → List ℕ → Type 0
-IsNoProgram text message = IsErrAnd (program_in text) (λ fault. message ≡ fault_message fault.0 fault.1)
+abbrev pub IsNoProgram : InstructionSet → List ℕ → List ℕ → Type 0
+IsNoProgram isa text message = IsErrAnd (program_in isa text) (λ fault. message ≡ fault_message fault.0 fault.1)
 
 -- the text is no listing, and the message tells its first fault
-pub record IsNoListing (text message : List ℕ) : Type 0 where
+pub record IsNoListing (isa : InstructionSet) (text message : List ℕ) : Type 0 where
   pub fault : ListFault
   pub known : fault ≢ NoStore
-  pub refused : Refuses text fault
+  pub refused : Refuses isa text fault
   pub told : message ≡ list_message fault
 
 -- the text makes no packets, drained or as it stands, and the message tells its first fault
-pub record IsNoPackets (drain : Bool) (text message : List ℕ) : Type 0 where
+pub record IsNoPackets (isa : InstructionSet) (drain : Bool) (text message : List ℕ) : Type 0 where
   pub fault : AdoptFault
   pub known : fault ≢ NoRoom
-  pub refused : RefusesPackets drain text fault
+  pub refused : RefusesPackets isa drain text fault
   pub told : message ≡ adopt_message fault
 
 -- The text, of this form, says these packets as they stand. Their lines are those of the text.
-abbrev pub SaysPackets : Form → List ℕ → List Packed → Type 0
-SaysPackets Listed text packets = IsRead text packets
-SaysPackets Written text packets = IsAdopted false text packets 0
+abbrev pub SaysPackets : InstructionSet → Form → List ℕ → List Packed → Type 0
+SaysPackets isa Listed text packets = IsRead isa text packets
+SaysPackets isa Written text packets = IsAdopted isa false text packets 0
 
 -- it says none, and the message tells its first fault
-abbrev pub SaysNoPackets : Form → List ℕ → List ℕ → Type 0
-SaysNoPackets Listed text message = IsNoListing text message
-SaysNoPackets Written text message = IsNoPackets false text message
+abbrev pub SaysNoPackets : InstructionSet → Form → List ℕ → List ℕ → Type 0
+SaysNoPackets isa Listed text message = IsNoListing isa text message
+SaysNoPackets isa Written text message = IsNoPackets isa false text message
 
 -- the text has no code, and the message tells the line that keeps it from having some
-pub record IsUncoded (text message : List ℕ) : Type 0 where
+pub record IsUncoded (isa : InstructionSet) (text message : List ℕ) : Type 0 where
   pub fault : AdoptFault
   pub known : fault ≢ NoRoom
-  pub lacks : LacksCode text fault
+  pub lacks : LacksCode isa text fault
   pub told : message ≡ adopt_message fault
 
 -- the text's code makes no rows, or none has the label with which a run is to begin, and the message tells the first fault
-pub record IsNoRows (from : Option (List ℕ)) (text message : List ℕ) : Type 0 where
-  pub coded : IsCoded text
+pub record IsNoRows (isa : InstructionSet) (from : Option (List ℕ)) (text message : List ℕ) : Type 0 where
+  pub coded : IsCoded isa text
   pub fault : RowsFault
   pub known : fault ≢ NoPlace
-  pub refused : RefusesFrom (code_in (code_read text)) from fault
+  pub refused : RefusesFrom isa (code_in (code_read isa text)) from fault
   pub told : message ≡ rows_message fault
 
-abbrev pub IsNoFlight : Option (List ℕ) → List ℕ → List ℕ → Type 0
-IsNoFlight from text message = IsUncoded text message ⊎ IsNoRows from text message
+abbrev pub IsNoFlight : InstructionSet → Option (List ℕ) → List ℕ → List ℕ → Type 0
+IsNoFlight isa from text message = IsUncoded isa text message ⊎ IsNoRows isa from text message
 
 -- no line of the text has the label from which on it is to be taken, and the message tells that
-pub record IsUnreached (name text message : List ℕ) : Type 0 where
-  pub lacks : Lacks name text Nowhere
+pub record IsUnreached (isa : InstructionSet) (name text message : List ℕ) : Type 0 where
+  pub lacks : Lacks isa name text Nowhere
   pub told : message ≡ rows_message NoStart

@@ -32,7 +32,7 @@ use c62_adopt::laws::texts_that_stand_lack_nothing;
 use c62_adopt::{Adopted, adopt};
 use c62_command::{Command, Form, Packing, Rendering, Request, Showing, Start};
 use c62_listing::list;
-use c62_op::Reg;
+use c62_op::{InstructionSet, Reg};
 use c62_packet::Packets;
 use c62_page::page;
 use c62_read::{Program, read_program};
@@ -42,10 +42,14 @@ use std::sync::Wait;
 use std::thread::Threads;
 
 /// The program that a text says.
-pub(crate) fn program_of(alloc: Global, text: &[u8]) -> Result<Program, Failure>
-    ensures { GivesProgram text.now result }
+pub(crate) fn program_of(
+    isa: InstructionSet,
+    alloc: Global,
+    text: &[u8],
+) -> Result<Program, Failure>
+    ensures { GivesProgram isa text.now result }
 {
-    match read_program(alloc, text) {
+    match read_program(isa, alloc, text) {
         Ok(program) => Ok(program),
         Err(fault) => Err(Failure::from(fault)),
     }
@@ -86,11 +90,16 @@ pub(crate) fn picture_of(
 }
 
 /// The listing of what a text says, packed by turns.
-fn pack_by_turns(alloc: Global, text: &[u8], packing: Packing) -> Result<Reply, Failure>
+fn pack_by_turns(
+    isa: InstructionSet,
+    alloc: Global,
+    text: &[u8],
+    packing: Packing,
+) -> Result<Reply, Failure>
     requires { packing.turns ≡ true }
-    ensures { Gives (Listing packing) text.now result }
+    ensures { Gives isa (Listing packing) text.now result }
 {
-    let program = program_of(alloc, text)?;
+    let program = program_of(isa, alloc, text)?;
     let packets = packets_by_turns(alloc, program, packing)?;
     Ok(Reply {
         text: listing_of(alloc, &packets)?,
@@ -99,11 +108,16 @@ fn pack_by_turns(alloc: Global, text: &[u8], packing: Packing) -> Result<Reply, 
 }
 
 /// The picture of what a text says, packed by turns.
-fn show_by_turns(alloc: Global, text: &[u8], showing: Showing) -> Result<Reply, Failure>
+fn show_by_turns(
+    isa: InstructionSet,
+    alloc: Global,
+    text: &[u8],
+    showing: Showing,
+) -> Result<Reply, Failure>
     requires { showing.packing.turns ≡ true }
-    ensures { Gives (Picture showing) text.now result }
+    ensures { Gives isa (Picture showing) text.now result }
 {
-    let program = program_of(alloc, text)?;
+    let program = program_of(isa, alloc, text)?;
     let shown = shown_by_turns(alloc, program, showing)?;
     Ok(Reply {
         text: picture_of(alloc, showing, text, &shown)?,
@@ -113,29 +127,31 @@ fn show_by_turns(alloc: Global, text: &[u8], showing: Showing) -> Result<Reply, 
 
 /// The report of a run of what a text says, packed by turns.
 fn run_by_turns(
+    isa: InstructionSet,
     alloc: Global,
     text: &[u8],
     packing: Packing,
     start: &Start,
 ) -> Result<Reply, Failure>
     requires { packing.turns ≡ true }
-    ensures { Gives (PacketReport packing start.now.course start.now.settings.items) text.now result }
+    ensures { Gives isa (PacketReport packing start.now.course start.now.settings.items) text.now result }
 {
-    let program = program_of(alloc, text)?;
+    let program = program_of(isa, alloc, text)?;
     let packets = packets_by_turns(alloc, program, packing)?;
     Ok(packet_run(alloc, &packets, start)?)
 }
 
 /// The listing of what a text says, packed by workers.
 fn pack_by_workers<H: AllocGlobal + Threads + Wait + Sync>(
+    isa: InstructionSet,
     rt: &H,
     text: &[u8],
     packing: Packing,
 ) -> Result<Reply, Failure>
     requires { packing.turns ≡ false }
-    ensures { Gives (Listing packing) text.now result }
+    ensures { Gives isa (Listing packing) text.now result }
 {
-    let program = program_of(rt.alloc(), text)?;
+    let program = program_of(isa, rt.alloc(), text)?;
     let packets = packets_by_workers(rt, program, packing)?;
     Ok(Reply {
         text: listing_of(rt.alloc(), &packets)?,
@@ -145,14 +161,15 @@ fn pack_by_workers<H: AllocGlobal + Threads + Wait + Sync>(
 
 /// The picture of what a text says, packed by workers.
 fn show_by_workers<H: AllocGlobal + Threads + Wait + Sync>(
+    isa: InstructionSet,
     rt: &H,
     text: &[u8],
     showing: Showing,
 ) -> Result<Reply, Failure>
     requires { showing.packing.turns ≡ false }
-    ensures { Gives (Picture showing) text.now result }
+    ensures { Gives isa (Picture showing) text.now result }
 {
-    let program = program_of(rt.alloc(), text)?;
+    let program = program_of(isa, rt.alloc(), text)?;
     let shown = shown_by_workers(rt, program, showing)?;
     Ok(Reply {
         text: picture_of(rt.alloc(), showing, text, &shown)?,
@@ -162,32 +179,45 @@ fn show_by_workers<H: AllocGlobal + Threads + Wait + Sync>(
 
 /// The report of a run of what a text says, packed by workers.
 fn run_by_workers<H: AllocGlobal + Threads + Wait + Sync>(
+    isa: InstructionSet,
     rt: &H,
     text: &[u8],
     packing: Packing,
     start: &Start,
 ) -> Result<Reply, Failure>
     requires { packing.turns ≡ false }
-    ensures { Gives (PacketReport packing start.now.course start.now.settings.items) text.now result }
+    ensures { Gives isa (PacketReport packing start.now.course start.now.settings.items) text.now result }
 {
-    let program = program_of(rt.alloc(), text)?;
+    let program = program_of(isa, rt.alloc(), text)?;
     let packets = packets_by_workers(rt, program, packing)?;
     Ok(packet_run(rt.alloc(), &packets, start)?)
 }
 
 /// The report of the serial run of what a text says. What becomes of the registers that are to be apart isn't told in it.
-fn serial(alloc: Global, text: &[u8], start: &Start, _apart: &Vec<Reg>) -> Result<Reply, Failure>
-    ensures { Gives (SerialReport start.now.course start.now.settings.items _apart.now.items) text.now result }
+fn serial(
+    isa: InstructionSet,
+    alloc: Global,
+    text: &[u8],
+    start: &Start,
+    _apart: &Vec<Reg>,
+) -> Result<Reply, Failure>
+    ensures { Gives isa (SerialReport start.now.course start.now.settings.items _apart.now.items) text.now result }
 {
-    let program = program_of(alloc, text)?;
+    let program = program_of(isa, alloc, text)?;
     Ok(serial_run(alloc, &program, start)?)
 }
 
 /// The report of a run of packets as they stand in a text of this form.
-fn sim(alloc: Global, form: Form, text: &[u8], start: &Start) -> Result<Reply, Failure>
-    ensures { Gives (StandingReport form start.now.course start.now.settings.items) text.now result }
+fn sim(
+    isa: InstructionSet,
+    alloc: Global,
+    form: Form,
+    text: &[u8],
+    start: &Start,
+) -> Result<Reply, Failure>
+    ensures { Gives isa (StandingReport form start.now.course start.now.settings.items) text.now result }
 {
-    let packets = packets_in(alloc, form, text)?;
+    let packets = packets_in(isa, alloc, form, text)?;
     Ok(packet_run(alloc, &packets, start)?)
 }
 
@@ -202,10 +232,15 @@ pub(crate) fn added_in(adopted: &Adopted) -> Added
 }
 
 /// The listing of a text of packets as people and compilers write them. Where it is drained, the cycles are added that lack.
-pub(crate) fn adopted(alloc: Global, text: &[u8], drain: bool) -> Result<Reply, Failure>
-    ensures { Gives (Adoption drain) text.now result }
+pub(crate) fn adopted(
+    isa: InstructionSet,
+    alloc: Global,
+    text: &[u8],
+    drain: bool,
+) -> Result<Reply, Failure>
+    ensures { Gives isa (Adoption drain) text.now result }
 {
-    let adopted = adopt(alloc, text, drain)?;
+    let adopted = adopt(isa, alloc, text, drain)?;
     // It tells that no cycle is added where the text isn't drained.
     texts_that_stand_lack_nothing();
     Ok(Reply {
@@ -216,73 +251,75 @@ pub(crate) fn adopted(alloc: Global, text: &[u8], drain: bool) -> Result<Reply, 
 
 /// The answer to a text, as text.
 fn answer<H: AllocGlobal + Threads + Wait + Sync>(
+    isa: InstructionSet,
     rt: &H,
     request: &Request,
     text: &[u8],
 ) -> Result<Reply, Failure>
-    ensures { Gives (ask_of request.now) text.now result }
+    ensures { Gives isa (ask_of request.now) text.now result }
 {
     match request {
         Request::Pack(packing) => {
             if packing.turns {
-                pack_by_turns(rt.alloc(), text, *packing)
+                pack_by_turns(isa, rt.alloc(), text, *packing)
             } else {
-                pack_by_workers(rt, text, *packing)
+                pack_by_workers(isa, rt, text, *packing)
             }
         }
         Request::Show(showing) => {
             if showing.packing.turns {
-                show_by_turns(rt.alloc(), text, *showing)
+                show_by_turns(isa, rt.alloc(), text, *showing)
             } else {
-                show_by_workers(rt, text, *showing)
+                show_by_workers(isa, rt, text, *showing)
             }
         }
-        Request::ShowListing(showing) => show_listing(rt.alloc(), text, *showing),
-        Request::ShowPackets(showing) => show_packets(rt.alloc(), text, *showing),
+        Request::ShowListing(showing) => show_listing(isa, rt.alloc(), text, *showing),
+        Request::ShowPackets(showing) => show_packets(isa, rt.alloc(), text, *showing),
         Request::Run(packing, start) => {
             if packing.turns {
-                run_by_turns(rt.alloc(), text, *packing, start)
+                run_by_turns(isa, rt.alloc(), text, *packing, start)
             } else {
-                run_by_workers(rt, text, *packing, start)
+                run_by_workers(isa, rt, text, *packing, start)
             }
         }
-        Request::Serial(start, apart) => serial(rt.alloc(), text, start, apart),
-        Request::Sim(form, start) => sim(rt.alloc(), *form, text, start),
-        Request::Exec(start) => exec_as(rt.alloc(), text, start),
-        Request::Adopt(adopting) => adopted_as(rt.alloc(), text, adopting),
-        Request::Check(form) => verdicts(rt.alloc(), *form, text),
-        Request::CheckLoops(promises) => loop_verdicts(rt.alloc(), promises, text),
-        Request::PackLoops(looping) => loop_listing(rt, text, looping),
-        Request::ShowLoops(looping, drawing) => loop_picture(rt, text, looping, *drawing),
-        Request::RunLoops(looping, flight) => loop_report(rt, text, looping, flight),
+        Request::Serial(start, apart) => serial(isa, rt.alloc(), text, start, apart),
+        Request::Sim(form, start) => sim(isa, rt.alloc(), *form, text, start),
+        Request::Exec(start) => exec_as(isa, rt.alloc(), text, start),
+        Request::Adopt(adopting) => adopted_as(isa, rt.alloc(), text, adopting),
+        Request::Check(form) => verdicts(isa, rt.alloc(), *form, text),
+        Request::CheckLoops(promises) => loop_verdicts(isa, rt.alloc(), promises, text),
+        Request::PackLoops(looping) => loop_listing(isa, rt, text, looping),
+        Request::ShowLoops(looping, drawing) => loop_picture(isa, rt, text, looping, *drawing),
+        Request::RunLoops(looping, flight) => loop_report(isa, rt, text, looping, flight),
     }
 }
 
 /// The document of an answer to a text.
 fn document<H: AllocGlobal + Threads + Wait + Sync>(
+    isa: InstructionSet,
     rt: &H,
     request: &Request,
     text: &[u8],
 ) -> Result<Reply, Failure>
-    ensures { Gives (Document (ask_of request.now)) text.now result }
+    ensures { Gives isa (Document (ask_of request.now)) text.now result }
 {
     match request {
-        Request::Pack(packing) => pack_document(rt, text, *packing),
-        Request::Show(showing) => show_document(rt, text, *showing),
-        Request::ShowListing(showing) => show_listing_document(rt.alloc(), text, *showing),
-        Request::ShowPackets(showing) => show_packets_document(rt.alloc(), text, *showing),
-        Request::Run(packing, start) => run_document(rt, text, *packing, start),
-        Request::Serial(start, apart) => serial_document(rt.alloc(), text, start, apart),
-        Request::Sim(form, start) => sim_document(rt.alloc(), *form, text, start),
-        Request::Exec(start) => exec_document(rt.alloc(), text, start),
-        Request::Adopt(adopting) => adopt_document(rt.alloc(), text, adopting),
-        Request::Check(form) => verdicts_document(rt.alloc(), *form, text),
-        Request::CheckLoops(promises) => loop_verdicts_document(rt.alloc(), promises, text),
-        Request::PackLoops(looping) => loop_listing_document(rt, text, looping),
+        Request::Pack(packing) => pack_document(isa, rt, text, *packing),
+        Request::Show(showing) => show_document(isa, rt, text, *showing),
+        Request::ShowListing(showing) => show_listing_document(isa, rt.alloc(), text, *showing),
+        Request::ShowPackets(showing) => show_packets_document(isa, rt.alloc(), text, *showing),
+        Request::Run(packing, start) => run_document(isa, rt, text, *packing, start),
+        Request::Serial(start, apart) => serial_document(isa, rt.alloc(), text, start, apart),
+        Request::Sim(form, start) => sim_document(isa, rt.alloc(), *form, text, start),
+        Request::Exec(start) => exec_document(isa, rt.alloc(), text, start),
+        Request::Adopt(adopting) => adopt_document(isa, rt.alloc(), text, adopting),
+        Request::Check(form) => verdicts_document(isa, rt.alloc(), *form, text),
+        Request::CheckLoops(promises) => loop_verdicts_document(isa, rt.alloc(), promises, text),
+        Request::PackLoops(looping) => loop_listing_document(isa, rt, text, looping),
         Request::ShowLoops(looping, drawing) => {
-            loop_picture_document(rt, text, looping, *drawing)
+            loop_picture_document(isa, rt, text, looping, *drawing)
         }
-        Request::RunLoops(looping, flight) => loop_report_document(rt, text, looping, flight),
+        Request::RunLoops(looping, flight) => loop_report_document(isa, rt, text, looping, flight),
     }
 }
 
@@ -292,15 +329,16 @@ fn document<H: AllocGlobal + Threads + Wait + Sync>(
 ///
 /// The first fault of the text, as the page of the command says, or that memory ran out.
 pub fn respond<H: AllocGlobal + Threads + Wait + Sync>(
+    isa: InstructionSet,
     rt: &H,
     command: &Command,
     text: &[u8],
 ) -> Result<Reply, Failure>
-    ensures { Gives (ask_told command.now) text.now result }
+    ensures { Gives isa (ask_told command.now) text.now result }
 {
     match command.rendering {
-        Rendering::Text => answer(rt, &command.request, text),
-        Rendering::Json => document(rt, &command.request, text),
+        Rendering::Text => answer(isa, rt, &command.request, text),
+        Rendering::Json => document(isa, rt, &command.request, text),
     }
 }
 

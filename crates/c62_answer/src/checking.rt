@@ -15,16 +15,17 @@ use c62_check::check;
 use c62_check::laws::checked_packets_are_serial;
 use c62_command::Form;
 use c62_listing_reader::read_listing;
+use c62_op::InstructionSet;
 use c62_packet::Packets;
 use c62_read::{Cause, MOST_BYTES, Program, ReadFault, read_program};
 use std::alloc::Global;
 
 /// What is told of a check whose input has no line `---`.
 #[tactic(auto, using(crate::proofs::Verdicts::endless, crate::proofs::Verdicts::unparted, crate::proofs::LoopVerdicts::endless, crate::proofs::LoopVerdicts::unparted))]
-pub(crate) fn unparted(input: &[u8]) -> Failure
+pub(crate) fn unparted(isa: InstructionSet, input: &[u8]) -> Failure
     requires { HasNoParting input.now }
-    ensures by_block { (form : Form) → Gives (Verdicts form) input.now (Err result) }
-    ensures by_loop { (trips : List (Text × ℕ)) (apart : List Register) → Gives (LoopVerdicts trips apart) input.now (Err result) }
+    ensures by_block { (form : Form) → Gives isa (Verdicts form) input.now (Err result) }
+    ensures by_loop { (trips : List (Text × ℕ)) (apart : List Register) → Gives isa (LoopVerdicts trips apart) input.now (Err result) }
 {
     if input.len() > MOST_BYTES {
         Failure::TextPart(ReadFault::at(0, Cause::TextTooLong))
@@ -34,42 +35,47 @@ pub(crate) fn unparted(input: &[u8]) -> Failure
 }
 
 /// The program that the text of a check says.
-pub(crate) fn text_part(alloc: Global, text: &[u8]) -> Result<Program, Failure>
-    ensures { GivesTextPart text.now result }
+pub(crate) fn text_part(isa: InstructionSet, alloc: Global, text: &[u8]) -> Result<Program, Failure>
+    ensures { GivesTextPart isa text.now result }
 {
-    match read_program(alloc, text) {
+    match read_program(isa, alloc, text) {
         Ok(program) => Ok(program),
         Err(fault) => Err(Failure::of_text(fault)),
     }
 }
 
 /// The packets that the listing of a check says.
-fn listing_part(alloc: Global, listing: &[u8]) -> Result<Packets, Failure>
-    ensures { GivesPacketsPart Form.Listed listing.now result }
+fn listing_part(isa: InstructionSet, alloc: Global, listing: &[u8]) -> Result<Packets, Failure>
+    ensures { GivesPacketsPart isa Form.Listed listing.now result }
 {
-    match read_listing(alloc, listing) {
+    match read_listing(isa, alloc, listing) {
         Ok(packets) => Ok(packets),
         Err(fault) => Err(Failure::of_listing(fault)),
     }
 }
 
 /// The packets that stand, as they are written, in the place of the listing of a check.
-fn written_part(alloc: Global, text: &[u8]) -> Result<Packets, Failure>
-    ensures { GivesPacketsPart Form.Written text.now result }
+fn written_part(isa: InstructionSet, alloc: Global, text: &[u8]) -> Result<Packets, Failure>
+    ensures { GivesPacketsPart isa Form.Written text.now result }
 {
-    match written_packets(alloc, text) {
+    match written_packets(isa, alloc, text) {
         Ok(packets) => Ok(packets),
         Err(fault) => Err(Failure::of_packets(fault)),
     }
 }
 
 /// The packets that are to be checked.
-pub(crate) fn packets_part(alloc: Global, form: Form, text: &[u8]) -> Result<Packets, Failure>
-    ensures { GivesPacketsPart form text.now result }
+pub(crate) fn packets_part(
+    isa: InstructionSet,
+    alloc: Global,
+    form: Form,
+    text: &[u8],
+) -> Result<Packets, Failure>
+    ensures { GivesPacketsPart isa form text.now result }
 {
     match form {
-        Form::Listed => listing_part(alloc, text),
-        Form::Written => written_part(alloc, text),
+        Form::Listed => listing_part(isa, alloc, text),
+        Form::Written => written_part(isa, alloc, text),
     }
 }
 
@@ -78,14 +84,19 @@ pub(crate) fn packets_part(alloc: Global, form: Form, text: &[u8]) -> Result<Pac
 /// # Errors
 ///
 /// The first fault of the text, then that of the packets, or that memory ran out.
-pub fn verdicts(alloc: Global, form: Form, input: &[u8]) -> Result<Reply, Failure>
-    ensures { Gives (Verdicts form) input.now result }
+pub fn verdicts(
+    isa: InstructionSet,
+    alloc: Global,
+    form: Form,
+    input: &[u8],
+) -> Result<Reply, Failure>
+    ensures { Gives isa (Verdicts form) input.now result }
 {
     let Some(parts) = parts_of(input) else {
-        return Err(unparted(input));
+        return Err(unparted(isa, input));
     };
-    let program = text_part(alloc, parts.text)?;
-    let packets = packets_part(alloc, form, parts.listing)?;
+    let program = text_part(isa, alloc, parts.text)?;
+    let packets = packets_part(isa, alloc, form, parts.listing)?;
     let checked = check(alloc, program, &packets)?;
     // It tells that packets that are the same run as the program.
     checked_packets_are_serial();

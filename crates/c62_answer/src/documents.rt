@@ -30,6 +30,7 @@ use c62_json_loops::laws::documents_have_lines;
 use c62_json_loops::loops_document;
 use c62_json_packets::packets_document;
 use c62_json_show::shown_document;
+use c62_op::InstructionSet;
 use c62_read::Program;
 use c62_show::Shown;
 use c62_standing::shown_as_they_stand;
@@ -39,13 +40,14 @@ use std::thread::Threads;
 
 /// The document of the packets of what a text says.
 pub(crate) fn pack_document<H: AllocGlobal + Threads + Wait + Sync>(
+    isa: InstructionSet,
     rt: &H,
     text: &[u8],
     packing: Packing,
 ) -> Result<Reply, Failure>
-    ensures { Gives (Document (Listing packing)) text.now result }
+    ensures { Gives isa (Document (Listing packing)) text.now result }
 {
-    let program = program_of(rt.alloc(), text)?;
+    let program = program_of(isa, rt.alloc(), text)?;
     let packets = packed(rt, program, packing)?;
     Ok(Reply {
         text: packets_document(rt.alloc(), "pack", &packets)?,
@@ -70,13 +72,14 @@ fn shown<H: AllocGlobal + Threads + Wait + Sync>(
 
 /// The document of what is shown of a text's blocks.
 pub(crate) fn show_document<H: AllocGlobal + Threads + Wait + Sync>(
+    isa: InstructionSet,
     rt: &H,
     text: &[u8],
     showing: Showing,
 ) -> Result<Reply, Failure>
-    ensures { Gives (Document (Picture showing)) text.now result }
+    ensures { Gives isa (Document (Picture showing)) text.now result }
 {
-    let program = program_of(rt.alloc(), text)?;
+    let program = program_of(isa, rt.alloc(), text)?;
     let shown = shown(rt, program, showing)?;
     Ok(Reply {
         text: shown_document(rt.alloc(), &shown, showing.summary)?,
@@ -86,13 +89,14 @@ pub(crate) fn show_document<H: AllocGlobal + Threads + Wait + Sync>(
 
 /// The document of what is shown of a listing's packets, as they stand.
 pub(crate) fn show_listing_document(
+    isa: InstructionSet,
     alloc: Global,
     text: &[u8],
     showing: Showing,
 ) -> Result<Reply, Failure>
-    ensures { Gives (Document (ListingPicture showing)) text.now result }
+    ensures { Gives isa (Document (ListingPicture showing)) text.now result }
 {
-    let packets = packets_in(alloc, Form::Listed, text)?;
+    let packets = packets_in(isa, alloc, Form::Listed, text)?;
     let shown = shown_as_they_stand(alloc, &packets, details_of(showing))?;
     Ok(Reply {
         text: shown_document(alloc, &shown, showing.summary)?,
@@ -102,13 +106,14 @@ pub(crate) fn show_listing_document(
 
 /// The document of what is shown of packets as people and compilers write them, as they stand.
 pub(crate) fn show_packets_document(
+    isa: InstructionSet,
     alloc: Global,
     text: &[u8],
     showing: Showing,
 ) -> Result<Reply, Failure>
-    ensures { Gives (Document (PacketsPicture showing)) text.now result }
+    ensures { Gives isa (Document (PacketsPicture showing)) text.now result }
 {
-    let packets = packets_in(alloc, Form::Written, text)?;
+    let packets = packets_in(isa, alloc, Form::Written, text)?;
     let shown = shown_as_they_stand(alloc, &packets, details_of(showing))?;
     Ok(Reply {
         text: shown_document(alloc, &shown, showing.summary)?,
@@ -117,14 +122,19 @@ pub(crate) fn show_packets_document(
 }
 
 /// The document of what each block of packets in this form is, held against the text that stands before them.
-pub(crate) fn verdicts_document(alloc: Global, form: Form, input: &[u8]) -> Result<Reply, Failure>
-    ensures { Gives (Document (Verdicts form)) input.now result }
+pub(crate) fn verdicts_document(
+    isa: InstructionSet,
+    alloc: Global,
+    form: Form,
+    input: &[u8],
+) -> Result<Reply, Failure>
+    ensures { Gives isa (Document (Verdicts form)) input.now result }
 {
     let Some(parts) = parts_of(input) else {
-        return Err(unparted(input));
+        return Err(unparted(isa, input));
     };
-    let program = text_part(alloc, parts.text)?;
-    let packets = packets_part(alloc, form, parts.listing)?;
+    let program = text_part(isa, alloc, parts.text)?;
+    let packets = packets_part(isa, alloc, form, parts.listing)?;
     let checked = check_document(alloc, program, &packets)?;
     // It tells that packets that are the same run as the program.
     checked_packets_are_serial();
@@ -149,10 +159,10 @@ fn drained(drain: bool, added: Added) -> Option<Drained>
 }
 
 /// The document of a text of packets as people and compilers write them. Where it is drained, the cycles are added that lack.
-fn adopted(alloc: Global, text: &[u8], drain: bool) -> Result<Reply, Failure>
-    ensures { Gives (Document (Adoption drain)) text.now result }
+fn adopted(isa: InstructionSet, alloc: Global, text: &[u8], drain: bool) -> Result<Reply, Failure>
+    ensures { Gives isa (Document (Adoption drain)) text.now result }
 {
-    let adopted = adopt(alloc, text, drain)?;
+    let adopted = adopt(isa, alloc, text, drain)?;
     // It tells that no cycle is added where the text isn't drained.
     texts_that_stand_lack_nothing();
     let added = added_in(&adopted);
@@ -164,26 +174,33 @@ fn adopted(alloc: Global, text: &[u8], drain: bool) -> Result<Reply, Failure>
 
 /// The document of what is taken of a text from the label of this name on.
 #[tactic(auto, using(crate::proofs::Documented::reached_document, crate::proofs::Documented::not_reached_document))]
-fn adopted_from(alloc: Global, text: &[u8], name: &[u8], drain: bool) -> Result<Reply, Failure>
-    ensures { Gives (Document (Reaching name.now (Adoption drain))) text.now result }
+fn adopted_from(
+    isa: InstructionSet,
+    alloc: Global,
+    text: &[u8],
+    name: &[u8],
+    drain: bool,
+) -> Result<Reply, Failure>
+    ensures { Gives isa (Document (Reaching name.now (Adoption drain))) text.now result }
 {
-    match taken_from(alloc, text, name) {
-        Ok(taken) => adopted(alloc, &taken, drain),
+    match taken_from(isa, alloc, text, name) {
+        Ok(taken) => adopted(isa, alloc, &taken, drain),
         Err(failure) => Err(failure),
     }
 }
 
 /// The document of a text of packets, or of what is taken of it.
 pub(crate) fn adopt_document(
+    isa: InstructionSet,
     alloc: Global,
     text: &[u8],
     adopting: &Adopting,
 ) -> Result<Reply, Failure>
-    ensures { Gives (Document (reaching (option_map (λ name. name.items) adopting.now.from) (Adoption adopting.now.drain))) text.now result }
+    ensures { Gives isa (Document (reaching (option_map (λ name. name.items) adopting.now.from) (Adoption adopting.now.drain))) text.now result }
 {
     match &adopting.from {
-        Some(name) => adopted_from(alloc, text, name, adopting.drain),
-        None => adopted(alloc, text, adopting.drain),
+        Some(name) => adopted_from(isa, alloc, text, name, adopting.drain),
+        None => adopted(isa, alloc, text, adopting.drain),
     }
 }
 
@@ -200,20 +217,21 @@ fn lines_reply(alloc: Global, command: &str, reply: Reply) -> Result<Reply, Allo
 
 /// The document of what is told of packets in flight, held against the loops of the text that stands before them.
 pub(crate) fn loop_verdicts_document(
+    isa: InstructionSet,
     alloc: Global,
     promises: &Promises,
     input: &[u8],
 ) -> Result<Reply, Failure>
-    ensures { Gives (Document (LoopVerdicts (map trips_of promises.now.trips.items) promises.now.apart.items)) input.now result }
+    ensures { Gives isa (Document (LoopVerdicts (map trips_of promises.now.trips.items) promises.now.apart.items)) input.now result }
 {
     let Some(parts) = parts_of(input) else {
-        return Err(unparted(input));
+        return Err(unparted(isa, input));
     };
-    let program = text_part(alloc, parts.text)?;
+    let program = text_part(isa, alloc, parts.text)?;
     if let Some(number) = first_loopless(program.blocks(), &promises.trips) {
         return Err(Failure::NoLoop(number));
     }
-    let read = rows_part(alloc, parts.listing)?;
+    let read = rows_part(isa, alloc, parts.listing)?;
     let checked = loops_document(alloc, &program, &read, promises)?;
     // It tells that the lines of the check stand for the document.
     documents_have_lines();
@@ -226,14 +244,15 @@ pub(crate) fn loop_verdicts_document(
 /// The document of the packets of a text whose loops are pipelined.
 #[tactic(auto, using(crate::proofs::Documented::packed_lines, crate::proofs::Documented::refused_too))]
 pub(crate) fn loop_listing_document<H: AllocGlobal + Threads + Wait + Sync>(
+    isa: InstructionSet,
     rt: &H,
     text: &[u8],
     looping: &Looping,
 ) -> Result<Reply, Failure>
-    ensures { Gives (Document (LoopListing looping.now.verbose looping.now.packing (map trips_of looping.now.promises.trips.items)
+    ensures { Gives isa (Document (LoopListing looping.now.verbose looping.now.packing (map trips_of looping.now.promises.trips.items)
         looping.now.promises.apart.items)) text.now result }
 {
-    match loop_listing(rt, text, looping) {
+    match loop_listing(isa, rt, text, looping) {
         Ok(reply) => Ok(lines_reply(rt.alloc(), "pack", reply)?),
         Err(failure) => Err(failure),
     }
@@ -242,14 +261,15 @@ pub(crate) fn loop_listing_document<H: AllocGlobal + Threads + Wait + Sync>(
 /// The document of the picture of the loops of such packets.
 #[tactic(auto, using(crate::proofs::Documented::drawn_lines, crate::proofs::Documented::refused_too))]
 pub(crate) fn loop_picture_document<H: AllocGlobal + Threads + Wait + Sync>(
+    isa: InstructionSet,
     rt: &H,
     text: &[u8],
     looping: &Looping,
     drawing: Drawing,
 ) -> Result<Reply, Failure>
-    ensures { Gives (Document (LoopPicture drawing looping.now.packing (map trips_of looping.now.promises.trips.items) looping.now.promises.apart.items)) text.now result }
+    ensures { Gives isa (Document (LoopPicture drawing looping.now.packing (map trips_of looping.now.promises.trips.items) looping.now.promises.apart.items)) text.now result }
 {
-    match loop_picture(rt, text, looping, drawing) {
+    match loop_picture(isa, rt, text, looping, drawing) {
         Ok(reply) => Ok(lines_reply(rt.alloc(), "show", reply)?),
         Err(failure) => Err(failure),
     }

@@ -15,6 +15,7 @@ use c62_adopt::read_code;
 use c62_command::{FlightCourse, FlightStart, Setting};
 use c62_exec::{Flown, fly, fly_counted};
 use c62_flight::Stop;
+use c62_op::InstructionSet;
 use c62_printing::{push_dumps, push_prints};
 use c62_profile::flight_table;
 use c62_report::flight_report;
@@ -120,10 +121,15 @@ pub(crate) fn name_of(start: &FlightStart) -> Option<&[u8]>
 /// # Errors
 ///
 /// The first fault of the text, that no line has the label of `--from`, or that memory ran out.
-pub fn exec(alloc: Global, text: &[u8], start: &FlightStart) -> Result<Reply, Failure>
-    ensures { Gives (FlightReport start.now.course (option_map (λ name. name.items) start.now.from) start.now.settings.items) text.now result }
+pub fn exec(
+    isa: InstructionSet,
+    alloc: Global,
+    text: &[u8],
+    start: &FlightStart,
+) -> Result<Reply, Failure>
+    ensures { Gives isa (FlightReport start.now.course (option_map (λ name. name.items) start.now.from) start.now.settings.items) text.now result }
 {
-    let code = read_code(alloc, text)?;
-    let begun = read_from(alloc, &code, name_of(start))?;
+    let code = read_code(isa, alloc, text)?;
+    let begun = read_from(isa, alloc, &code, name_of(start))?;
     Ok(flown(alloc, &begun, &start.settings, start.course)?)
 }

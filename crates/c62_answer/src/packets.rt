@@ -10,6 +10,7 @@ use c62_adopt::laws::texts_that_stand_lack_nothing;
 use c62_adopt::{AdoptFault, adopt};
 use c62_command::Form;
 use c62_listing_reader::read_listing;
+use c62_op::InstructionSet;
 use c62_packet::Packets;
 use std::alloc::Global;
 
@@ -18,11 +19,15 @@ use std::alloc::Global;
 /// # Errors
 ///
 /// Those of [`adopt`].
-pub(crate) fn written_packets(alloc: Global, text: &[u8]) -> Result<Packets, AdoptFault>
-    ensures packets { MatchResult result (λ packets. IsAdopted false text.now packets 0) (λ fault. Refuses false text.now fault) }
+pub(crate) fn written_packets(
+    isa: InstructionSet,
+    alloc: Global,
+    text: &[u8],
+) -> Result<Packets, AdoptFault>
+    ensures packets { MatchResult result (λ packets. IsAdopted isa false text.now packets 0) (λ fault. Refuses isa false text.now fault) }
     ensures closed { IfOk result (λ packets. IsTrue (is_closed packets)) }
 {
-    match adopt(alloc, text, false) {
+    match adopt(isa, alloc, text, false) {
         Ok(adopted) => {
             // It tells that no cycle is added where the text isn't drained.
             texts_that_stand_lack_nothing();
@@ -33,22 +38,22 @@ pub(crate) fn written_packets(alloc: Global, text: &[u8]) -> Result<Packets, Ado
 }
 
 /// The packets of a listing.
-fn listed(alloc: Global, text: &[u8]) -> Result<Packets, Failure>
-    ensures packets { GivesPackets Form.Listed text.now result }
+fn listed(isa: InstructionSet, alloc: Global, text: &[u8]) -> Result<Packets, Failure>
+    ensures packets { GivesPackets isa Form.Listed text.now result }
     ensures closed { IfOk result (λ packets. IsTrue (is_closed packets)) }
 {
-    match read_listing(alloc, text) {
+    match read_listing(isa, alloc, text) {
         Ok(packets) => Ok(packets),
         Err(fault) => Err(Failure::from(fault)),
     }
 }
 
 /// The packets of a text as people and compilers write them.
-fn written(alloc: Global, text: &[u8]) -> Result<Packets, Failure>
-    ensures packets { GivesPackets Form.Written text.now result }
+fn written(isa: InstructionSet, alloc: Global, text: &[u8]) -> Result<Packets, Failure>
+    ensures packets { GivesPackets isa Form.Written text.now result }
     ensures closed { IfOk result (λ packets. IsTrue (is_closed packets)) }
 {
-    match written_packets(alloc, text) {
+    match written_packets(isa, alloc, text) {
         Ok(packets) => Ok(packets),
         Err(fault) => Err(Failure::from(fault)),
     }
@@ -59,12 +64,17 @@ fn written(alloc: Global, text: &[u8]) -> Result<Packets, Failure>
 /// # Errors
 ///
 /// The first fault of the text, or that memory ran out.
-pub(crate) fn packets_in(alloc: Global, form: Form, text: &[u8]) -> Result<Packets, Failure>
-    ensures packets { GivesPackets form text.now result }
+pub(crate) fn packets_in(
+    isa: InstructionSet,
+    alloc: Global,
+    form: Form,
+    text: &[u8],
+) -> Result<Packets, Failure>
+    ensures packets { GivesPackets isa form text.now result }
     ensures closed { IfOk result (λ packets. IsTrue (is_closed packets)) }
 {
     match form {
-        Form::Listed => listed(alloc, text),
-        Form::Written => written(alloc, text),
+        Form::Listed => listed(isa, alloc, text),
+        Form::Written => written(isa, alloc, text),
     }
 }

@@ -22,6 +22,7 @@ use crate::outcome::{Outcome, Reply};
 use crate::schedule::{packets_by_turns, packets_by_workers};
 use c62_check_loops::first_loopless;
 use c62_command::{Drawing, Flight, Looping, Packing, Promises};
+use c62_op::InstructionSet;
 use c62_packet::Packets;
 use c62_page_loops::loops_page;
 use c62_pipeline::{Pipelining, kernels, loop_lines, pipeline};
@@ -33,12 +34,17 @@ use std::thread::Threads;
 
 /// The program that a text says, where each label of which trips are promised is a loop's.
 #[tactic(auto, using(crate::proofs::Looping::unread_loops, crate::proofs::Looping::loopless))]
-fn looped_program(alloc: Global, text: &[u8], promises: &Promises) -> Result<Program, Failure>
-    ensures says { IfOk result (SaysProgram text.now) }
+fn looped_program(
+    isa: InstructionSet,
+    alloc: Global,
+    text: &[u8],
+    promises: &Promises,
+) -> Result<Program, Failure>
+    ensures says { IfOk result (SaysProgram isa text.now) }
     ensures named { IfOk result (λ program. first_loopless program (map trips_of promises.now.trips.items) ≡ None) }
-    ensures err { IfErr result (RefusesLooped (map trips_of promises.now.trips.items) text.now) }
+    ensures err { IfErr result (RefusesLooped isa (map trips_of promises.now.trips.items) text.now) }
 {
-    let program = match program_of(alloc, text) {
+    let program = match program_of(isa, alloc, text) {
         Ok(program) => program,
         Err(failure) => return Err(failure),
     };
@@ -74,24 +80,25 @@ pub(crate) struct Looped {
 /// The packets of a text whose loops are pipelined.
 #[tactic(auto, using(crate::proofs::Looping::unread_loops, crate::proofs::Looping::looped_text))]
 pub(crate) fn make_looped<H: AllocGlobal + Threads + Wait + Sync>(
+    isa: InstructionSet,
     rt: &H,
     text: &[u8],
     looping: &Looping,
 ) -> Result<Looped, Failure>
-    ensures ok { IfOk result (λ looped. IsLooped looping.now.packing (map trips_of looping.now.promises.trips.items)
+    ensures ok { IfOk result (λ looped. IsLooped isa looping.now.packing (map trips_of looping.now.promises.trips.items)
         looping.now.promises.apart.items text.now looped.program looped.written) }
-    ensures err { IfErr result (RefusesLooped (map trips_of looping.now.promises.trips.items) text.now) }
+    ensures err { IfErr result (RefusesLooped isa (map trips_of looping.now.promises.trips.items) text.now) }
 {
-    let program = match looped_program(rt.alloc(), text, &looping.promises) {
+    let program = match looped_program(isa, rt.alloc(), text, &looping.promises) {
         Ok(program) => program,
         Err(failure) => return Err(failure),
     };
-    let again = match program_of(rt.alloc(), text) {
+    let again = match program_of(isa, rt.alloc(), text) {
         Ok(again) => again,
         Err(failure) => return Err(failure),
     };
     let packets = packed(rt, again, looping.packing)?;
-    let written = pipeline(rt.alloc(), &program, &packets, &looping.promises)?;
+    let written = pipeline(isa, rt.alloc(), &program, &packets, &looping.promises)?;
     Ok(Looped { program, written })
 }
 
@@ -112,10 +119,15 @@ pub(crate) fn told_lines(
 }
 
 /// These packets, and what is told of their loops.
-fn listed(alloc: Global, verbose: bool, looped: Looped) -> Result<Reply, AllocError>
+fn listed(
+    isa: InstructionSet,
+    alloc: Global,
+    verbose: bool,
+    looped: Looped,
+) -> Result<Reply, AllocError>
     ensures { (packing : Packed) (trips : List (Name × ℕ)) (apart : List Register) (text : List ℕ)
-        → IsLooped packing trips apart text looped.program looped.written
-        → IfOk result (λ reply. IsAnswer (LoopListing verbose packing trips apart) reply.outcome text reply.text.items) }
+        → IsLooped isa packing trips apart text looped.program looped.written
+        → IfOk result (λ reply. IsAnswer isa (LoopListing verbose packing trips apart) reply.outcome text reply.text.items) }
 {
     let Looped { program, written } = looped;
     let told = told_lines(alloc, verbose, &program, &written)?;
@@ -132,15 +144,16 @@ fn listed(alloc: Global, verbose: bool, looped: Looped) -> Result<Reply, AllocEr
 /// The first fault of the text, then that a label of `--trips` is no loop's, or that memory ran out.
 #[tactic(auto, using(crate::proofs::Looping::no_listed_loops))]
 pub(crate) fn loop_listing<H: AllocGlobal + Threads + Wait + Sync>(
+    isa: InstructionSet,
     rt: &H,
     text: &[u8],
     looping: &Looping,
 ) -> Result<Reply, Failure>
-    ensures { Gives (LoopListing looping.now.verbose looping.now.packing (map trips_of looping.now.promises.trips.items)
+    ensures { Gives isa (LoopListing looping.now.verbose looping.now.packing (map trips_of looping.now.promises.trips.items)
         looping.now.promises.apart.items) text.now result }
 {
-    match make_looped(rt, text, looping) {
-        Ok(looped) => Ok(listed(rt.alloc(), looping.verbose, looped)?),
+    match make_looped(isa, rt, text, looping) {
+        Ok(looped) => Ok(listed(isa, rt.alloc(), looping.verbose, looped)?),
         Err(failure) => Err(failure),
     }
 }
@@ -163,10 +176,16 @@ fn loop_drawing(
 }
 
 /// The picture of the loops of these packets of a text.
-fn drawn(alloc: Global, drawing: Drawing, text: &[u8], looped: &Looped) -> Result<Reply, AllocError>
+fn drawn(
+    isa: InstructionSet,
+    alloc: Global,
+    drawing: Drawing,
+    text: &[u8],
+    looped: &Looped,
+) -> Result<Reply, AllocError>
     ensures { (packing : Packed) (trips : List (Name × ℕ)) (apart : List Register)
-        → IsLooped packing trips apart text.now looped.now.program looped.now.written
-        → IfOk result (λ reply. IsAnswer (LoopPicture drawing packing trips apart) reply.outcome text.now reply.text.items) }
+        → IsLooped isa packing trips apart text.now looped.now.program looped.now.written
+        → IfOk result (λ reply. IsAnswer isa (LoopPicture drawing packing trips apart) reply.outcome text.now reply.text.items) }
 {
     Ok(Reply {
         text: loop_drawing(alloc, drawing, text, looped)?,
@@ -181,15 +200,16 @@ fn drawn(alloc: Global, drawing: Drawing, text: &[u8], looped: &Looped) -> Resul
 /// Those of [`loop_listing`].
 #[tactic(auto, using(crate::proofs::Looping::no_drawn_loops))]
 pub(crate) fn loop_picture<H: AllocGlobal + Threads + Wait + Sync>(
+    isa: InstructionSet,
     rt: &H,
     text: &[u8],
     looping: &Looping,
     drawing: Drawing,
 ) -> Result<Reply, Failure>
-    ensures { Gives (LoopPicture drawing looping.now.packing (map trips_of looping.now.promises.trips.items) looping.now.promises.apart.items) text.now result }
+    ensures { Gives isa (LoopPicture drawing looping.now.packing (map trips_of looping.now.promises.trips.items) looping.now.promises.apart.items) text.now result }
 {
-    match make_looped(rt, text, looping) {
-        Ok(looped) => Ok(drawn(rt.alloc(), drawing, text, &looped)?),
+    match make_looped(isa, rt, text, looping) {
+        Ok(looped) => Ok(drawn(isa, rt.alloc(), drawing, text, &looped)?),
         Err(failure) => Err(failure),
     }
 }
@@ -197,16 +217,17 @@ pub(crate) fn loop_picture<H: AllocGlobal + Threads + Wait + Sync>(
 /// The report of a run of these packets, which begins so, and what is told of their loops.
 #[tactic(auto, using(crate::proofs::Looping::loops_flown))]
 fn reported(
+    isa: InstructionSet,
     alloc: Global,
     verbose: bool,
     looped: &Looped,
     begun: &Begun,
     flight: &Flight,
 ) -> Result<Reply, AllocError>
-    requires { BeginsAs looped.now.written.text.items None begun.now }
+    requires { BeginsAs isa looped.now.written.text.items None begun.now }
     ensures { (packing : Packed) (trips : List (Name × ℕ)) (apart : List Register) (text : List ℕ)
-        → IsLooped packing trips apart text looped.now.program looped.now.written
-        → IfOk result (λ reply. IsAnswer (LoopReport verbose packing trips apart flight.now.course flight.now.settings.items) reply.outcome text reply.text.items) }
+        → IsLooped isa packing trips apart text looped.now.program looped.now.written
+        → IfOk result (λ reply. IsAnswer isa (LoopReport verbose packing trips apart flight.now.course flight.now.settings.items) reply.outcome text reply.text.items) }
 {
     let told = told_lines(alloc, verbose, &looped.program, &looped.written)?;
     let reply = flown(alloc, begun, &flight.settings, flight.course)?;
@@ -219,17 +240,18 @@ fn reported(
 /// The report of a run of these packets, where they are read again, and what is told of their loops.
 #[tactic(auto, using(crate::proofs::Looping::unread_again))]
 fn run_again(
+    isa: InstructionSet,
     alloc: Global,
     verbose: bool,
     looped: &Looped,
     flight: &Flight,
 ) -> Result<Reply, Failure>
     ensures { (packing : Packed) (trips : List (Name × ℕ)) (apart : List Register) (text : List ℕ)
-        → IsLooped packing trips apart text looped.now.program looped.now.written
-        → Gives (LoopReport verbose packing trips apart flight.now.course flight.now.settings.items) text result }
+        → IsLooped isa packing trips apart text looped.now.program looped.now.written
+        → Gives isa (LoopReport verbose packing trips apart flight.now.course flight.now.settings.items) text result }
 {
-    match read_from(alloc, &looped.written.text, None) {
-        Ok(begun) => Ok(reported(alloc, verbose, looped, &begun, flight)?),
+    match read_from(isa, alloc, &looped.written.text, None) {
+        Ok(begun) => Ok(reported(isa, alloc, verbose, looped, &begun, flight)?),
         Err(fault) => Err(Failure::from(fault)),
     }
 }
@@ -241,16 +263,17 @@ fn run_again(
 /// Those of [`loop_listing`].
 #[tactic(auto, using(crate::proofs::Looping::no_run_loops))]
 pub(crate) fn loop_report<H: AllocGlobal + Threads + Wait + Sync>(
+    isa: InstructionSet,
     rt: &H,
     text: &[u8],
     looping: &Looping,
     flight: &Flight,
 ) -> Result<Reply, Failure>
-    ensures { Gives (LoopReport looping.now.verbose looping.now.packing (map trips_of looping.now.promises.trips.items)
+    ensures { Gives isa (LoopReport looping.now.verbose looping.now.packing (map trips_of looping.now.promises.trips.items)
         looping.now.promises.apart.items flight.now.course flight.now.settings.items) text.now result }
 {
-    match make_looped(rt, text, looping) {
-        Ok(looped) => run_again(rt.alloc(), looping.verbose, &looped, flight),
+    match make_looped(isa, rt, text, looping) {
+        Ok(looped) => run_again(isa, rt.alloc(), looping.verbose, &looped, flight),
         Err(failure) => Err(failure),
     }
 }

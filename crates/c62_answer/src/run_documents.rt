@@ -34,7 +34,7 @@ use c62_command::{
 };
 use c62_exec::{Count, Flown, fly, fly_counted};
 use c62_json_report::{FlightRun, Left, PacketRun, flight_document, packet_document};
-use c62_op::Reg;
+use c62_op::{InstructionSet, Reg};
 use c62_packet::Packets;
 use c62_pipe::run_chain;
 use c62_printing::push_dumps;
@@ -152,14 +152,15 @@ fn serial_told(alloc: Global, program: &Program, start: &Start) -> Result<Reply,
 
 /// The document of the serial run of what a text says. What becomes of the registers that are to be apart isn't told in it.
 pub(crate) fn serial_document(
+    isa: InstructionSet,
     alloc: Global,
     text: &[u8],
     start: &Start,
     _apart: &Vec<Reg>,
 ) -> Result<Reply, Failure>
-    ensures { Gives (Document (SerialReport start.now.course start.now.settings.items _apart.now.items)) text.now result }
+    ensures { Gives isa (Document (SerialReport start.now.course start.now.settings.items _apart.now.items)) text.now result }
 {
-    let program = program_of(alloc, text)?;
+    let program = program_of(isa, alloc, text)?;
     Ok(serial_told(alloc, &program, start)?)
 }
 
@@ -196,28 +197,30 @@ fn packets_told(
 
 /// The document of a run of what a text says, packed as is asked for.
 pub(crate) fn run_document<H: AllocGlobal + Threads + Wait + Sync>(
+    isa: InstructionSet,
     rt: &H,
     text: &[u8],
     packing: Packing,
     start: &Start,
 ) -> Result<Reply, Failure>
-    ensures { Gives (Document (PacketReport packing start.now.course start.now.settings.items)) text.now result }
+    ensures { Gives isa (Document (PacketReport packing start.now.course start.now.settings.items)) text.now result }
 {
-    let program = program_of(rt.alloc(), text)?;
+    let program = program_of(isa, rt.alloc(), text)?;
     let packets = packed(rt, program, packing)?;
     Ok(packets_told(rt.alloc(), "run", &packets, start)?)
 }
 
 /// The document of a run of packets as they stand in a text of this form.
 pub(crate) fn sim_document(
+    isa: InstructionSet,
     alloc: Global,
     form: Form,
     text: &[u8],
     start: &Start,
 ) -> Result<Reply, Failure>
-    ensures { Gives (Document (StandingReport form start.now.course start.now.settings.items)) text.now result }
+    ensures { Gives isa (Document (StandingReport form start.now.course start.now.settings.items)) text.now result }
 {
-    let packets = packets_in(alloc, form, text)?;
+    let packets = packets_in(isa, alloc, form, text)?;
     Ok(packets_told(alloc, "sim", &packets, start)?)
 }
 
@@ -255,55 +258,68 @@ fn flight_told(
 }
 
 /// The document of a run of a text of packets as people and compilers write them, with everything in flight.
-fn exec_told(alloc: Global, text: &[u8], start: &FlightStart) -> Result<Reply, Failure>
-    ensures { Gives (Document (FlightReport start.now.course (option_map (λ name. name.items) start.now.from) start.now.settings.items)) text.now result }
+fn exec_told(
+    isa: InstructionSet,
+    alloc: Global,
+    text: &[u8],
+    start: &FlightStart,
+) -> Result<Reply, Failure>
+    ensures { Gives isa (Document (FlightReport start.now.course (option_map (λ name. name.items) start.now.from) start.now.settings.items)) text.now result }
 {
-    let code = read_code(alloc, text)?;
-    let begun = read_from(alloc, &code, name_of(start))?;
+    let code = read_code(isa, alloc, text)?;
+    let begun = read_from(isa, alloc, &code, name_of(start))?;
     Ok(flight_told(alloc, "exec", &begun, &start.settings, start.course)?)
 }
 
 /// The document of a run of what is taken of a text from the label of this name on.
 #[tactic(auto, using(crate::proofs::Documented::reached_document, crate::proofs::Documented::not_reached_document))]
-fn exec_from(alloc: Global, text: &[u8], name: &[u8], start: &FlightStart) -> Result<Reply, Failure>
-    ensures { Gives (Document (Reaching name.now (FlightReport start.now.course (option_map (λ name. name.items) start.now.from) start.now.settings.items))) text.now result }
+fn exec_from(
+    isa: InstructionSet,
+    alloc: Global,
+    text: &[u8],
+    name: &[u8],
+    start: &FlightStart,
+) -> Result<Reply, Failure>
+    ensures { Gives isa (Document (Reaching name.now (FlightReport start.now.course (option_map (λ name. name.items) start.now.from) start.now.settings.items))) text.now result }
 {
-    match taken_from(alloc, text, name) {
-        Ok(taken) => exec_told(alloc, &taken, start),
+    match taken_from(isa, alloc, text, name) {
+        Ok(taken) => exec_told(isa, alloc, &taken, start),
         Err(failure) => Err(failure),
     }
 }
 
 /// The document of a run of a text of packets, or of what is taken of it.
 pub(crate) fn exec_document(
+    isa: InstructionSet,
     alloc: Global,
     text: &[u8],
     start: &FlightStart,
 ) -> Result<Reply, Failure>
-    ensures { Gives (Document (flight_asked start.now.alone start.now.course (option_map (λ name. name.items) start.now.from) start.now.settings.items)) text.now result }
+    ensures { Gives isa (Document (flight_asked start.now.alone start.now.course (option_map (λ name. name.items) start.now.from) start.now.settings.items)) text.now result }
 {
     if start.alone {
         match &start.from {
-            Some(name) => exec_from(alloc, text, name, start),
-            None => exec_told(alloc, text, start),
+            Some(name) => exec_from(isa, alloc, text, name, start),
+            None => exec_told(isa, alloc, text, start),
         }
     } else {
-        exec_told(alloc, text, start)
+        exec_told(isa, alloc, text, start)
     }
 }
 
 /// The document of a run of packets of a text whose loops are pipelined, which begin so, and what is told of their loops.
 fn loops_told(
+    isa: InstructionSet,
     alloc: Global,
     verbose: bool,
     looped: &Looped,
     begun: &Begun,
     flight: &Flight,
 ) -> Result<Reply, AllocError>
-    requires { BeginsAs looped.now.written.text.items None begun.now }
+    requires { BeginsAs isa looped.now.written.text.items None begun.now }
     ensures { (packing : Packed) (trips : List (Name × ℕ)) (apart : List Register) (text : List ℕ)
-        → IsLooped packing trips apart text looped.now.program looped.now.written
-        → IfOk result (λ reply. IsAnswer (Document (LoopReport verbose packing trips apart flight.now.course flight.now.settings.items)) reply.outcome text reply.text.items) }
+        → IsLooped isa packing trips apart text looped.now.program looped.now.written
+        → IfOk result (λ reply. IsAnswer isa (Document (LoopReport verbose packing trips apart flight.now.course flight.now.settings.items)) reply.outcome text reply.text.items) }
 {
     let told = told_lines(alloc, verbose, &looped.program, &looped.written)?;
     let reply = flight_told(alloc, "run", begun, &flight.settings, flight.course)?;
@@ -315,17 +331,18 @@ fn loops_told(
 
 /// The same, where these packets are read again.
 fn loops_run(
+    isa: InstructionSet,
     alloc: Global,
     verbose: bool,
     looped: &Looped,
     flight: &Flight,
 ) -> Result<Reply, Failure>
     ensures { (packing : Packed) (trips : List (Name × ℕ)) (apart : List Register) (text : List ℕ)
-        → IsLooped packing trips apart text looped.now.program looped.now.written
-        → Gives (Document (LoopReport verbose packing trips apart flight.now.course flight.now.settings.items)) text result }
+        → IsLooped isa packing trips apart text looped.now.program looped.now.written
+        → Gives isa (Document (LoopReport verbose packing trips apart flight.now.course flight.now.settings.items)) text result }
 {
-    match read_from(alloc, &looped.written.text, None) {
-        Ok(begun) => Ok(loops_told(alloc, verbose, looped, &begun, flight)?),
+    match read_from(isa, alloc, &looped.written.text, None) {
+        Ok(begun) => Ok(loops_told(isa, alloc, verbose, looped, &begun, flight)?),
         Err(fault) => Err(Failure::from(fault)),
     }
 }
@@ -333,16 +350,17 @@ fn loops_run(
 /// The document of a run of packets of a text whose loops are pipelined.
 #[tactic(auto, using(crate::proofs::RunsDocumented::no_run_loops_documented))]
 pub(crate) fn loop_report_document<H: AllocGlobal + Threads + Wait + Sync>(
+    isa: InstructionSet,
     rt: &H,
     text: &[u8],
     looping: &Looping,
     flight: &Flight,
 ) -> Result<Reply, Failure>
-    ensures { Gives (Document (LoopReport looping.now.verbose looping.now.packing (map trips_of looping.now.promises.trips.items)
+    ensures { Gives isa (Document (LoopReport looping.now.verbose looping.now.packing (map trips_of looping.now.promises.trips.items)
         looping.now.promises.apart.items flight.now.course flight.now.settings.items)) text.now result }
 {
-    match make_looped(rt, text, looping) {
-        Ok(looped) => loops_run(rt.alloc(), looping.verbose, &looped, flight),
+    match make_looped(isa, rt, text, looping) {
+        Ok(looped) => loops_run(isa, rt.alloc(), looping.verbose, &looped, flight),
         Err(failure) => Err(failure),
     }
 }

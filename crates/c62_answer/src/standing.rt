@@ -10,6 +10,7 @@ use crate::failure::Failure;
 use crate::outcome::{Outcome, Reply};
 use crate::packets::packets_in;
 use c62_command::{Form, Showing};
+use c62_op::InstructionSet;
 use c62_packet::Packets;
 use c62_standing::{Details, shown_as_they_stand};
 use std::alloc::{AllocError, Global};
@@ -26,6 +27,7 @@ pub(crate) fn details_of(showing: Showing) -> Details
 
 /// The picture of the packets of a text, as they stand.
 fn drawn(
+    isa: InstructionSet,
     alloc: Global,
     packets: &Packets,
     text: &[u8],
@@ -39,23 +41,33 @@ fn drawn(
 }
 
 /// The picture of the packets of a listing, as they stand.
-pub(crate) fn show_listing(alloc: Global, text: &[u8], showing: Showing) -> Result<Reply, Failure>
-    ensures { Gives (ListingPicture showing) text.now result }
+pub(crate) fn show_listing(
+    isa: InstructionSet,
+    alloc: Global,
+    text: &[u8],
+    showing: Showing,
+) -> Result<Reply, Failure>
+    ensures { Gives isa (ListingPicture showing) text.now result }
 {
-    let packets = packets_in(alloc, Form::Listed, text)?;
+    let packets = packets_in(isa, alloc, Form::Listed, text)?;
     Ok(Reply {
-        text: drawn(alloc, &packets, text, showing)?,
+        text: drawn(isa, alloc, &packets, text, showing)?,
         outcome: Outcome::Done,
     })
 }
 
 /// The picture of the packets of a text as people and compilers write them, as they stand.
-pub(crate) fn show_packets(alloc: Global, text: &[u8], showing: Showing) -> Result<Reply, Failure>
-    ensures { Gives (PacketsPicture showing) text.now result }
+pub(crate) fn show_packets(
+    isa: InstructionSet,
+    alloc: Global,
+    text: &[u8],
+    showing: Showing,
+) -> Result<Reply, Failure>
+    ensures { Gives isa (PacketsPicture showing) text.now result }
 {
-    let packets = packets_in(alloc, Form::Written, text)?;
+    let packets = packets_in(isa, alloc, Form::Written, text)?;
     Ok(Reply {
-        text: drawn(alloc, &packets, text, showing)?,
+        text: drawn(isa, alloc, &packets, text, showing)?,
         outcome: Outcome::Done,
     })
 }

@@ -13,6 +13,7 @@ use crate::message::{report, tell_outcome};
 use crate::outcome::Outcome;
 use crate::writing::{Refused, write_whole};
 use c62_command::{Command, command_of};
+use c62_op::InstructionSet;
 use std::convert::AsStr;
 use std::io::{Read, Write};
 use std::sync::Wait;
@@ -35,39 +36,41 @@ fn write_out<W: Write>(output: &mut W, bytes: &[u8]) -> Result<(), Failure>
 
 /// Reads a text, and writes the answer to it.
 fn perform<H: AllocGlobal + Threads + Wait + Sync, R: Read, W: Write>(
+    isa: InstructionSet,
     rt: &H,
     command: &Command,
     reader: &mut R,
     output: &mut W,
 ) -> Result<Outcome, Failure>
-    ensures ok { IfOk result (λ outcome. Does (ask_told command.now) outcome (R.remaining reader.old)
+    ensures ok { IfOk result (λ outcome. Does isa (ask_told command.now) outcome (R.remaining reader.old)
         (W.contents output.old) (W.contents output.new)) }
-    ensures err { IfErr result (Fails (ask_told command.now) (R.remaining reader.old) (W.contents output.old)
+    ensures err { IfErr result (Fails isa (ask_told command.now) (R.remaining reader.old) (W.contents output.old)
         (W.contents output.new)) }
     ensures most { TakesAtMost (limit_of (ask_told command.now) + 1) (R.remaining reader.old) (R.remaining reader.new) }
 {
     let text = read_text(rt.alloc(), reader, limit_for(command))?;
-    let reply = respond(rt, command, &text)?;
+    let reply = respond(isa, rt, command, &text)?;
     write_out(output, &reply.text)?;
     Ok(reply.outcome)
 }
 
 /// Does what the words ask for. They are judged before anything is read.
 fn run<H: AllocGlobal + Threads + Wait + Sync, S: AsStr, R: Read, W: Write>(
+    isa: InstructionSet,
     rt: &H,
     words: &[S],
     reader: &mut R,
     output: &mut W,
 ) -> Result<Outcome, Failure>
-    ensures ok { IfOk result (λ outcome. IsDone (map S.text words.now) outcome (R.remaining reader.old)
+    ensures ok { IfOk result (λ outcome. IsDone isa (map S.text words.now) outcome (R.remaining reader.old)
         (W.contents output.old) (W.contents output.new)) }
-    ensures err { IfErr result (HasFailed (map S.text words.now) (R.remaining reader.old) (W.contents output.old)
+    ensures err { IfErr result (HasFailed isa (map S.text words.now) (R.remaining reader.old) (W.contents output.old)
         (W.contents output.new)) }
     ensures unread { asked (map S.text words.now) ≡ None → Keeps (R.remaining reader.old) (R.remaining reader.new) }
     ensures most { TakesAsked (map S.text words.now) (R.remaining reader.old) (R.remaining reader.new) }
 {
     let command = command_of(rt.alloc(), words)?;
-    perform(rt, &command, reader, output)
+    perform(isa, rt, &command, reader, output)
 }
 
 /// How a run ended: its status, and whether the error stream took all that was told.
@@ -80,6 +83,7 @@ pub struct Ended {
 /// Runs the program as [`run_tool`] does. Where the error stream took all that it was offered, what is told is told whole, and else
 /// a front of it.
 fn run_telling<H: AllocGlobal + Threads + Wait + Sync, S: AsStr, R: Read, W: Write, E: Write>(
+    isa: InstructionSet,
     rt: &H,
     words: &[S],
     reader: &mut R,
@@ -88,9 +92,9 @@ fn run_telling<H: AllocGlobal + Threads + Wait + Sync, S: AsStr, R: Read, W: Wri
 ) -> Ended
     ensures { let old = streams (R.remaining reader.old) (W.contents output.old) (E.contents errors.old) in
         let new = streams (R.remaining reader.new) (W.contents output.new) (E.contents errors.new) in
-        IsRunBy (told_of result.told) (map S.text words.now) old new result.status }
+        IsRunBy isa (told_of result.told) (map S.text words.now) old new result.status }
 {
-    match run(rt, words, reader, output) {
+    match run(isa, rt, words, reader, output) {
         Ok(outcome) => Ended {
             told: tell_outcome(errors, &outcome),
             status: outcome.status(),
@@ -113,6 +117,7 @@ fn run_telling<H: AllocGlobal + Threads + Wait + Sync, S: AsStr, R: Read, W: Wri
 /// packets, from as many trips on as are promised, and that nothing else is left of both. A 4 means that a stream failed: what was written is
 /// nothing or a front of the answer.
 pub fn run_tool<H: AllocGlobal + Threads + Wait + Sync, S: AsStr, R: Read, W: Write, E: Write>(
+    isa: InstructionSet,
     rt: &H,
     words: &[S],
     reader: &mut R,
@@ -121,9 +126,9 @@ pub fn run_tool<H: AllocGlobal + Threads + Wait + Sync, S: AsStr, R: Read, W: Wr
 ) -> u8
     ensures { let old = streams (R.remaining reader.old) (W.contents output.old) (E.contents errors.old) in
         let new = streams (R.remaining reader.new) (W.contents output.new) (E.contents errors.new) in
-        IsRun (map S.text words.now) old new result }
+        IsRun isa (map S.text words.now) old new result }
 {
-    run_telling(rt, words, reader, output, errors).status
+    run_telling(isa, rt, words, reader, output, errors).status
 }
 
 /// What a run wrote to its output and its error stream, and its status.
@@ -136,16 +141,17 @@ pub struct Ran {
 
 /// Runs the program on these bytes. A 4 means that a stream failed, as the output does where memory runs out.
 pub fn run_on_bytes<H: AllocGlobal + Threads + Wait + Sync, S: AsStr>(
+    isa: InstructionSet,
     rt: &H,
     words: &[S],
     input: &[u8],
 ) -> Ran
-    ensures { IsRunOnBytes (map S.text words.now) input.now result.output.items result.errors.items result.status }
+    ensures { IsRunOnBytes isa (map S.text words.now) input.now result.output.items result.errors.items result.status }
 {
     let mut reader = input;
     let mut output = Vec::new(rt.alloc());
     let mut errors = Vec::new(rt.alloc());
-    let status = run_tool(rt, words, &mut reader, &mut output, &mut errors);
+    let status = run_tool(isa, rt, words, &mut reader, &mut output, &mut errors);
     Ran {
         output,
         errors,

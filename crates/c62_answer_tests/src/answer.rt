@@ -2,6 +2,7 @@
 
 use crate::expect::equal;
 use c62_answer::run_on_bytes;
+use c62_op::InstructionSet;
 use std::test::Fail;
 
 /// Words, a text, and the report.
@@ -312,7 +313,7 @@ const BAD_SETTINGS: [(&[&str], usize); 25] = [
 #[test]
 fn reports(rt: HostRuntime) -> Result<(), Fail> {
     for (words, text, report) in REPORTED.iter().chain(&RUN) {
-        let ran = run_on_bytes(&rt, *words, text);
+        let ran = run_on_bytes(InstructionSet::Core, &rt, *words, text);
         equal(&rt, &ran.errors.as_slice(), &b"".as_slice());
         equal(&rt, &ran.output.as_slice(), &report.as_bytes());
         equal(&rt, &ran.status, &0);
@@ -352,7 +353,7 @@ const STRICT: [(&[&str], &[u8], u8); 9] = [
 #[test]
 fn strict_runs(rt: HostRuntime) -> Result<(), Fail> {
     for (words, text, status) in &STRICT {
-        let ran = run_on_bytes(&rt, *words, text);
+        let ran = run_on_bytes(InstructionSet::Core, &rt, *words, text);
         equal(&rt, &ran.status, status);
         assert!(rt; ran.errors.is_empty());
         assert!(rt; ran.output.starts_with(b"blocks ") || ran.output.starts_with(b"cycles "));
@@ -370,7 +371,7 @@ fn arms_of_a_condition(rt: HostRuntime) -> Result<(), Fail> {
             let mut all = Vec::new(rt.alloc());
             all.extend_from_slice(*words)?;
             all.extend_from_slice(&[tested, "A3=5", "A4=3"])?;
-            let ran = run_on_bytes(&rt, all.as_slice(), text);
+            let ran = run_on_bytes(InstructionSet::Core, &rt, all.as_slice(), text);
             let report = format!(in rt.alloc();
                 "blocks 1\ncycles 1\nexit end\n{result}\nA3 00000005\nA4 00000003\n"
             )?;
@@ -385,11 +386,11 @@ fn arms_of_a_condition(rt: HostRuntime) -> Result<(), Fail> {
 fn accesses_apart_that_fault(rt: HostRuntime) -> Result<(), Fail> {
     for (base, left) in &FAULTING {
         let words = ["serial", "A1=9", "@0=7", *base];
-        let ran = run_on_bytes(&rt, words.as_slice(), APART);
+        let ran = run_on_bytes(InstructionSet::Core, &rt, words.as_slice(), APART);
         let report = format!(in rt.alloc(); "blocks 1\nexit end\n{left}")?;
         equal(&rt, &ran.output.as_slice(), &report.as_bytes());
         let words = ["run", "--turns", "A1=9", "@0=7", *base];
-        let ran = run_on_bytes(&rt, words.as_slice(), APART);
+        let ran = run_on_bytes(InstructionSet::Core, &rt, words.as_slice(), APART);
         let report = format!(in rt.alloc(); "blocks 1\ncycles 5\nexit end\n{left}")?;
         equal(&rt, &ran.output.as_slice(), &report.as_bytes());
     }
@@ -401,7 +402,7 @@ fn accesses_apart_that_fault(rt: HostRuntime) -> Result<(), Fail> {
 fn full_memory(rt: HostRuntime) -> Result<(), Fail> {
     let words = ["serial", "--blocks", "1000000", "A1=1", "A2=0x4000"];
     let text = b"L: STW A1,*A4++\n SUB A2,1,A2\n [A2] B L\n";
-    let ran = run_on_bytes(&rt, words.as_slice(), text);
+    let ran = run_on_bytes(InstructionSet::Core, &rt, words.as_slice(), text);
     let head = b"blocks 16384\nexit end\nA1 00000001\nA4 00010000\n@0000 00000001\n";
     equal(&rt, &ran.status, &0);
     assert!(rt; ran.output.starts_with(head));
@@ -413,7 +414,7 @@ fn full_memory(rt: HostRuntime) -> Result<(), Fail> {
 #[test]
 fn bad_settings(rt: HostRuntime) -> Result<(), Fail> {
     for (words, number) in &BAD_SETTINGS {
-        let ran = run_on_bytes(&rt, *words, b"FOO");
+        let ran = run_on_bytes(InstructionSet::Core, &rt, *words, b"FOO");
         let expected = format!(in rt.alloc(); "setting {number}: bad\n")?;
         equal(&rt, &ran.errors.as_slice(), &expected.as_bytes());
         equal(&rt, &ran.status, &2);
@@ -425,7 +426,7 @@ fn bad_settings(rt: HostRuntime) -> Result<(), Fail> {
 #[test]
 fn refused_listings(rt: HostRuntime) -> Result<(), Fail> {
     for (text, expected) in &NO_LISTING {
-        let ran = run_on_bytes(&rt, &["sim"], text);
+        let ran = run_on_bytes(InstructionSet::Core, &rt, &["sim"], text);
         equal(&rt, &ran.errors.as_slice(), &expected.as_bytes());
         equal(&rt, &ran.status, &1);
         assert!(rt; ran.output.is_empty());

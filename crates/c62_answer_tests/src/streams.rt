@@ -2,6 +2,7 @@
 
 use crate::expect::equal;
 use c62_answer::run_tool;
+use c62_op::InstructionSet;
 use std::io;
 use std::io::{Read, Write};
 use std::test::Fail;
@@ -154,7 +155,14 @@ fn refused_words(rt: HostRuntime) -> Result<(), Fail> {
         };
         let mut output = Vec::new(rt.alloc());
         let mut errors = Vec::new(rt.alloc());
-        let status = run_tool(&rt, *words, &mut input, &mut output, &mut errors);
+        let status = run_tool(
+            InstructionSet::Core,
+            &rt,
+            *words,
+            &mut input,
+            &mut output,
+            &mut errors,
+        );
         equal(&rt, &status, &2);
         assert!(rt; output.is_empty());
         equal(&rt, &errors.last().copied(), &Some(b'\n'));
@@ -171,7 +179,14 @@ fn readers_that_fail(rt: HostRuntime) -> Result<(), Fail> {
         };
         let mut output = Vec::new(rt.alloc());
         let mut errors = Vec::new(rt.alloc());
-        let status = run_tool(&rt, &["pack"], &mut input, &mut output, &mut errors);
+        let status = run_tool(
+            InstructionSet::Core,
+            &rt,
+            &["pack"],
+            &mut input,
+            &mut output,
+            &mut errors,
+        );
         equal(&rt, &status, &4);
         assert!(rt; output.is_empty());
         equal(&rt, &errors.as_slice(), &b"input\n".as_slice());
@@ -179,7 +194,14 @@ fn readers_that_fail(rt: HostRuntime) -> Result<(), Fail> {
 
     let mut output = Vec::new(rt.alloc());
     let mut errors = Vec::new(rt.alloc());
-    let status = run_tool(&rt, &["pack"], &mut Endless, &mut output, &mut errors);
+    let status = run_tool(
+        InstructionSet::Core,
+        &rt,
+        &["pack"],
+        &mut Endless,
+        &mut output,
+        &mut errors,
+    );
     equal(&rt, &status, &1);
     assert!(rt; output.is_empty());
     equal(
@@ -198,7 +220,14 @@ fn writers_that_fail(rt: HostRuntime) -> Result<(), Fail> {
             let mut input: &[u8] = b"MVK 5,A1\n";
             let mut errors = Vec::new(rt.alloc());
             let mut full = Full { writes, fails };
-            let status = run_tool(&rt, &["pack"], &mut input, &mut full, &mut errors);
+            let status = run_tool(
+                InstructionSet::Core,
+                &rt,
+                &["pack"],
+                &mut input,
+                &mut full,
+                &mut errors,
+            );
             equal(&rt, &status, &4);
             equal(&rt, &errors.as_slice(), &b"output\n".as_slice());
         }
@@ -206,7 +235,14 @@ fn writers_that_fail(rt: HostRuntime) -> Result<(), Fail> {
 
     let mut input: &[u8] = b"MVK 5,A1\n";
     let mut errors = Vec::new(rt.alloc());
-    let status = run_tool(&rt, &["pack"], &mut input, &mut Unflushed, &mut errors);
+    let status = run_tool(
+        InstructionSet::Core,
+        &rt,
+        &["pack"],
+        &mut input,
+        &mut Unflushed,
+        &mut errors,
+    );
     equal(&rt, &status, &4);
     equal(&rt, &errors.as_slice(), &b"output\n".as_slice());
 
@@ -219,7 +255,14 @@ fn writers_that_fail(rt: HostRuntime) -> Result<(), Fail> {
             writes: 3,
             fails: true,
         };
-        let status = run_tool(&rt, *words, &mut input, &mut output, &mut errors);
+        let status = run_tool(
+            InstructionSet::Core,
+            &rt,
+            *words,
+            &mut input,
+            &mut output,
+            &mut errors,
+        );
         equal(&rt, &status, expected);
     }
     Ok(())
@@ -265,7 +308,14 @@ fn told_byte_by_byte(rt: HostRuntime) -> Result<(), Fail> {
             taken: Vec::new(rt.alloc()),
             interrupts: false,
         };
-        run_tool(&rt, *words, &mut input, &mut output, &mut errors);
+        run_tool(
+            InstructionSet::Core,
+            &rt,
+            *words,
+            &mut input,
+            &mut output,
+            &mut errors,
+        );
         equal(&rt, &errors.taken.as_slice(), &told.as_bytes());
     }
     Ok(())

@@ -2,6 +2,7 @@
 
 use crate::expect::equal;
 use c62_answer::run_on_bytes;
+use c62_op::InstructionSet;
 use std::process::Abort;
 use std::sync::Wait;
 use std::test::Fail;
@@ -43,8 +44,8 @@ fn are_alike<H: AllocGlobal + Threads + Wait + Abort + Sync>(
     by_turns: &[&str],
     text: &str,
 ) {
-    let first = run_on_bytes(rt, by_workers, text.as_bytes());
-    let second = run_on_bytes(rt, by_turns, text.as_bytes());
+    let first = run_on_bytes(InstructionSet::Core, rt, by_workers, text.as_bytes());
+    let second = run_on_bytes(InstructionSet::Core, rt, by_turns, text.as_bytes());
     equal(rt, &(first.status, second.status), &(0, 0));
     equal(rt, &first.output.as_slice(), &second.output.as_slice());
     assert!(rt; first.errors.is_empty());
@@ -57,7 +58,7 @@ fn workers_do_the_work(rt: HostRuntime) -> Result<(), Fail> {
         are_alike(&rt, &["show"], &["show", "--turns"], text);
         are_alike(&rt, &["run"], &["run", "--turns"], text);
     }
-    let ran = run_on_bytes(&rt, &["run"], MULTIPLIES.as_bytes());
+    let ran = run_on_bytes(InstructionSet::Core, &rt, &["run"], MULTIPLIES.as_bytes());
     equal(
         &rt,
         &ran.output.as_slice(),
@@ -68,7 +69,12 @@ fn workers_do_the_work(rt: HostRuntime) -> Result<(), Fail> {
 
 #[test]
 fn workers_eject(rt: HostRuntime) -> Result<(), Fail> {
-    let ran = run_on_bytes(&rt, &["pack", "--eject", "1"], EJECTING.as_bytes());
+    let ran = run_on_bytes(
+        InstructionSet::Core,
+        &rt,
+        &["pack", "--eject", "1"],
+        EJECTING.as_bytes(),
+    );
     equal(&rt, &ran.output.as_slice(), &EJECTED.as_bytes());
     are_alike(
         &rt,

@@ -2,6 +2,7 @@
 
 use crate::expect::equal;
 use c62_answer::run_on_bytes;
+use c62_op::InstructionSet;
 use std::test::Fail;
 
 /// A text and packets, parted by a line, what is told of them, and the status.
@@ -151,7 +152,7 @@ const NOT_RUN: [(&[u8], &str); 4] = [
 #[test]
 fn packets_that_are_checked(rt: HostRuntime) -> Result<(), Fail> {
     for (input, told, status) in &CHECKED {
-        let ran = run_on_bytes(&rt, &["check", "--packets"], input);
+        let ran = run_on_bytes(InstructionSet::Core, &rt, &["check", "--packets"], input);
         equal(&rt, &ran.output.as_slice(), &told.as_bytes());
         assert!(rt; ran.errors.is_empty());
         equal(&rt, &ran.status, status);
@@ -162,7 +163,7 @@ fn packets_that_are_checked(rt: HostRuntime) -> Result<(), Fail> {
 #[test]
 fn packets_that_are_run(rt: HostRuntime) -> Result<(), Fail> {
     for (words, text, report, status) in &RUN {
-        let ran = run_on_bytes(&rt, *words, text);
+        let ran = run_on_bytes(InstructionSet::Core, &rt, *words, text);
         equal(&rt, &ran.output.as_slice(), &report.as_bytes());
         assert!(rt; ran.errors.is_empty());
         equal(&rt, &ran.status, status);
@@ -173,13 +174,13 @@ fn packets_that_are_run(rt: HostRuntime) -> Result<(), Fail> {
 #[test]
 fn packets_that_are_refused(rt: HostRuntime) -> Result<(), Fail> {
     for (input, told) in &UNCHECKED {
-        let ran = run_on_bytes(&rt, &["check", "--packets"], input);
+        let ran = run_on_bytes(InstructionSet::Core, &rt, &["check", "--packets"], input);
         equal(&rt, &ran.errors.as_slice(), &told.as_bytes());
         equal(&rt, &ran.status, &1);
         assert!(rt; ran.output.is_empty());
     }
     for (text, told) in &NOT_RUN {
-        let ran = run_on_bytes(&rt, &["sim", "--packets"], text);
+        let ran = run_on_bytes(InstructionSet::Core, &rt, &["sim", "--packets"], text);
         equal(&rt, &ran.errors.as_slice(), &told.as_bytes());
         equal(&rt, &ran.status, &1);
         assert!(rt; ran.output.is_empty());

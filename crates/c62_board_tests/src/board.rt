@@ -4,6 +4,7 @@ use crate::expect::{equal, equal_in};
 use c62_board::{Board, CommitFault, PlaceFault, Proposal, ReplayFault, Turn, WithdrawFault};
 use c62_depend::Plan;
 use c62_insn::{Letter, Side, Unit};
+use c62_op::InstructionSet;
 use c62_read::read_program;
 use c62_sheet::{Entry, Spot, Who};
 use smallvec::SmallVec;
@@ -127,7 +128,7 @@ const VICTIMS: [(&str, Turn); 3] = [
 
 /// The plan of the only block of a text.
 fn plan_of(rt: &impl Abort, alloc: Global, text: &str) -> Result<Plan, Fail> {
-    let mut blocks = read_program(alloc, text.as_bytes())?.into_blocks();
+    let mut blocks = read_program(InstructionSet::Core, alloc, text.as_bytes())?.into_blocks();
     equal_in(rt, &text, &blocks.len(), &1);
     let block = blocks.pop().expect(rt, "a block");
     match Plan::new(alloc, block) {
@@ -498,7 +499,9 @@ fn look_at(rt: &impl Abort, board: &Board) -> Seen {
 
 /// The plan of the block of six, where memory is given.
 fn plan_of_six(alloc: Global) -> Option<Plan> {
-    let mut blocks = read_program(alloc, SIX.as_bytes()).ok()?.into_blocks();
+    let mut blocks = read_program(InstructionSet::Core, alloc, SIX.as_bytes())
+        .ok()?
+        .into_blocks();
     Plan::new(alloc, blocks.pop()?).ok()
 }
 

@@ -4,6 +4,7 @@ use crate::expect::{equal, equal_in};
 use c62_board::{Board, Spot, Who};
 use c62_depend::Plan;
 use c62_insn::{Letter, Reg, Side, Unit};
+use c62_op::InstructionSet;
 use c62_pack::{AtFault, packets_at, packets_of};
 use c62_packet::{PacketBlock, Packets};
 use c62_pipe::run_chain;
@@ -126,7 +127,7 @@ fn plan_of(alloc: Global, block: Block) -> Result<Plan, Fail> {
 
 /// The last block of a text.
 fn block_of(rt: &impl Abort, alloc: Global, text: &str) -> Result<Block, Fail> {
-    let mut blocks = read_program(alloc, text.as_bytes())?.into_blocks();
+    let mut blocks = read_program(InstructionSet::Core, alloc, text.as_bytes())?.into_blocks();
     Ok(blocks.pop().expect(rt, "a block"))
 }
 
@@ -145,7 +146,7 @@ fn board_of(rt: &impl Abort, alloc: Global, block: Block) -> Result<Board, Fail>
 /// The packets of a text whose blocks are placed in serial order.
 fn packets(rt: &impl Abort, alloc: Global, text: &str) -> Result<Packets, Fail> {
     let mut packets = Packets::new(alloc);
-    for block in read_program(alloc, text.as_bytes())?.into_blocks() {
+    for block in read_program(InstructionSet::Core, alloc, text.as_bytes())?.into_blocks() {
         let board = board_of(rt, alloc, block)?;
         assert!(rt; board.complete());
         assert!(rt; packets.len() < MOST_BLOCKS);
@@ -237,7 +238,7 @@ fn packets_run_as_blocks(rt: HostRuntime) -> Result<(), Fail> {
             equal_in(&rt, &text, &state.reg(register(*side, *number)), word);
         }
         let mut serial = opening(rt.alloc(), holds)?;
-        let program = read_program(rt.alloc(), text.as_bytes())?;
+        let program = read_program(InstructionSet::Core, rt.alloc(), text.as_bytes())?;
         equal_in(&rt, &text, &run_program(&program, &mut serial, 9)?, &chain);
         assert!(rt; state.registers() == serial.registers(), "{text}");
         assert!(rt; state.faults() == serial.faults(), "{text}");

@@ -2,6 +2,7 @@
 
 use crate::expect::equal_in;
 use crate::shortest::board_of;
+use c62_op::InstructionSet;
 use c62_packet::PacketBlock;
 use c62_page::page;
 use c62_read::read_insn;
@@ -99,7 +100,11 @@ fn page_of_an_empty_block(rt: HostRuntime) -> Result<(), Fail> {
     let mut shown = Vec::new(rt.alloc());
     shown.push(Shown {
         limits: None,
-        packets: PacketBlock::new(read_insn(b"L:")?.label, 0, Vec::new(rt.alloc()))?,
+        packets: PacketBlock::new(
+            read_insn(InstructionSet::Core, b"L:")?.label,
+            0,
+            Vec::new(rt.alloc()),
+        )?,
         whys: Vec::new(rt.alloc()),
         lives: None,
     })?;

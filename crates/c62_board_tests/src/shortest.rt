@@ -3,6 +3,7 @@
 use crate::expect::equal_in;
 use c62_board::{Board, PlaceFault, Spot, Who};
 use c62_depend::Plan;
+use c62_op::InstructionSet;
 use c62_read::read_program;
 use c62_shortest::{Schedule, shortest};
 use std::alloc::Global;
@@ -42,7 +43,7 @@ fn place(rt: &impl Abort, board: &mut Board, i: u16) -> Result<Spot, PlaceFault>
 
 /// The board of the only block of a text, placed in the order of the text.
 pub(crate) fn board_of(rt: &impl Abort, alloc: Global, text: &str) -> Result<Board, Fail> {
-    let mut blocks = read_program(alloc, text.as_bytes())?.into_blocks();
+    let mut blocks = read_program(InstructionSet::Core, alloc, text.as_bytes())?.into_blocks();
     equal_in(rt, &text, &blocks.len(), &1);
     let block = blocks.pop().expect(rt, "a block");
     let plan = match Plan::new(alloc, block) {

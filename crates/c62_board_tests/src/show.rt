@@ -1,6 +1,7 @@
 //! Pictures of blocks without instructions, and their heads alone; those with instructions are shown from texts in a crate above.
 
 use crate::expect::equal;
+use c62_op::InstructionSet;
 use c62_packet::PacketBlock;
 use c62_read::read_insn;
 use c62_show::{Shown, picture, summary};
@@ -24,7 +25,11 @@ fn blocks_without_instructions(rt: HostRuntime) -> Result<(), Fail> {
         for line in *lines {
             shown.push(Shown {
                 limits: None,
-                packets: PacketBlock::new(read_insn(line)?.label, 0, Vec::new(rt.alloc()))?,
+                packets: PacketBlock::new(
+                    read_insn(InstructionSet::Core, line)?.label,
+                    0,
+                    Vec::new(rt.alloc()),
+                )?,
                 whys: Vec::new(rt.alloc()),
                 lives: None,
             })?;

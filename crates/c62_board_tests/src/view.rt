@@ -6,6 +6,7 @@ use crate::expect::equal;
 use c62_board::{Board, Entry, Spot, Turn, Who};
 use c62_depend::Plan;
 use c62_insn::{Letter, Side, Unit};
+use c62_op::InstructionSet;
 use c62_read::read_program;
 use c62_view::{CommitFault, Desk, Proposal, Told, Viewer, desk_of};
 use std::alloc::Global;
@@ -35,7 +36,9 @@ fn proposal(number: u16, spot: Spot, seen: usize) -> Proposal {
 }
 
 fn plan_in(alloc: Global, text: &str) -> Option<Plan> {
-    let mut blocks = read_program(alloc, text.as_bytes()).ok()?.into_blocks();
+    let mut blocks = read_program(InstructionSet::Core, alloc, text.as_bytes())
+        .ok()?
+        .into_blocks();
     Plan::new(alloc, blocks.pop()?).ok()
 }
 

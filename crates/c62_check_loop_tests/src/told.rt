@@ -2,6 +2,7 @@
 
 use c62_check_loop::{check_loop, push_loop};
 use c62_loop_match::Promise;
+use c62_op::InstructionSet;
 use c62_pair::RegSet;
 use c62_read::{number, read_program};
 use c62_rows::read_rows;
@@ -34,10 +35,10 @@ fn laid(alloc: Global, packets: &[(usize, &str)]) -> Result<String, AllocError> 
 
 /// The lines of all loops of a text.
 fn told(alloc: Global, text: &str, packets: &str, apart: &str) -> Result<String, AllocError> {
-    let Ok(program) = read_program(alloc, text.as_bytes()) else {
+    let Ok(program) = read_program(InstructionSet::Core, alloc, text.as_bytes()) else {
         return format!(in alloc; "text");
     };
-    let Ok(read) = read_rows(alloc, packets.as_bytes()) else {
+    let Ok(read) = read_rows(InstructionSet::Core, alloc, packets.as_bytes()) else {
         return format!(in alloc; "packets");
     };
     let promise = promise_of(apart);

@@ -3,6 +3,7 @@
 use crate::expect::equal;
 use c62_check::check;
 use c62_listing_reader::read_listing;
+use c62_op::InstructionSet;
 use c62_read::read_program;
 use std::alloc::Global;
 use std::test::Fail;
@@ -16,8 +17,8 @@ struct Row {
 
 /// What is told of a text and a listing, with `all` behind it where every block is the same.
 fn told(alloc: Global, row: &Row) -> Result<String, Fail> {
-    let program = read_program(alloc, row.text.as_bytes())?;
-    let packets = read_listing(alloc, row.listing.as_bytes())?;
+    let program = read_program(InstructionSet::Core, alloc, row.text.as_bytes())?;
+    let packets = read_listing(InstructionSet::Core, alloc, row.listing.as_bytes())?;
     let checked = check(alloc, program, &packets)?;
     let mut text = String::from_utf8(checked.text)?;
     if checked.same {

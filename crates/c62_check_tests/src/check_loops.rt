@@ -3,6 +3,7 @@
 use crate::expect::equal_in;
 use c62_check_loops::{check_loops, first_loopless};
 use c62_command::{Promises, read_trips};
+use c62_op::InstructionSet;
 use c62_read::read_program;
 use c62_rows::read_rows;
 use std::alloc::{AllocError, Global};
@@ -28,10 +29,10 @@ fn told(
     packets: &str,
     promises: &Promises,
 ) -> Result<String, AllocError> {
-    let Ok(program) = read_program(alloc, text.as_bytes()) else {
+    let Ok(program) = read_program(InstructionSet::Core, alloc, text.as_bytes()) else {
         return format!(in alloc; "text");
     };
-    let Ok(read) = read_rows(alloc, packets.as_bytes()) else {
+    let Ok(read) = read_rows(InstructionSet::Core, alloc, packets.as_bytes()) else {
         return format!(in alloc; "packets");
     };
     if let Some(number) = first_loopless(program.blocks(), &promises.trips) {

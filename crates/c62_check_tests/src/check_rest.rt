@@ -2,6 +2,7 @@
 
 use crate::expect::equal_in;
 use c62_check_rest::{check_rest, push_rest, starts_of};
+use c62_op::InstructionSet;
 use c62_read::read_program;
 use c62_rows::read_rows;
 use std::alloc::{AllocError, Global};
@@ -10,10 +11,10 @@ use std::test::Fail;
 
 /// The lines of all blocks of a text without loops.
 fn told(alloc: Global, text: &str, packets: &str) -> Result<String, AllocError> {
-    let Ok(program) = read_program(alloc, text.as_bytes()) else {
+    let Ok(program) = read_program(InstructionSet::Core, alloc, text.as_bytes()) else {
         return format!(in alloc; "text");
     };
-    let Ok(read) = read_rows(alloc, packets.as_bytes()) else {
+    let Ok(read) = read_rows(InstructionSet::Core, alloc, packets.as_bytes()) else {
         return format!(in alloc; "packets");
     };
     let starts = starts_of(alloc, program.blocks(), &[], &read)?;

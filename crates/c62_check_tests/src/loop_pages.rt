@@ -3,6 +3,7 @@
 use crate::expect::equal;
 use crate::pipeline::{SUM, SUM_PACKETS, promised};
 use c62_listing_reader::read_listing;
+use c62_op::InstructionSet;
 use c62_page_loops::loops_page;
 use c62_pipeline::pipeline;
 use c62_read::read_program;
@@ -36,16 +37,16 @@ const PARTS: [(&[&str], &[&str]); 2] = [
 /// The page of the loop, or nothing where its texts aren't read.
 fn page_of(alloc: Global, trips: &[&str]) -> Result<String, AllocError> {
     let promises = promised(alloc, trips)?;
-    let Ok(program) = read_program(alloc, SUM.as_bytes()) else {
+    let Ok(program) = read_program(InstructionSet::Core, alloc, SUM.as_bytes()) else {
         return Ok(String::new(alloc));
     };
-    let Ok(packets) = read_listing(alloc, SUM_PACKETS.as_bytes()) else {
+    let Ok(packets) = read_listing(InstructionSet::Core, alloc, SUM_PACKETS.as_bytes()) else {
         return Ok(String::new(alloc));
     };
     if !packets.closed() {
         return Ok(String::new(alloc));
     }
-    let written = pipeline(alloc, &program, &packets, &promises)?;
+    let written = pipeline(InstructionSet::Core, alloc, &program, &packets, &promises)?;
     let bytes = loops_page(alloc, SUM.as_bytes(), program.blocks(), &written)?;
     match String::from_utf8(bytes) {
         Ok(text) => Ok(text),

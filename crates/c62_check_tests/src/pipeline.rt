@@ -4,6 +4,7 @@ use crate::expect::equal;
 use c62_command::{Promises, read_trips};
 use c62_listing_reader::read_listing;
 use c62_modulo::Shortness;
+use c62_op::InstructionSet;
 use c62_packet::Packets;
 use c62_pipeline::{Kept, pipeline};
 use c62_read::read_program;
@@ -45,16 +46,16 @@ fn told(
     listing: &str,
     promises: &Promises,
 ) -> Result<String, AllocError> {
-    let Ok(program) = read_program(alloc, text.as_bytes()) else {
+    let Ok(program) = read_program(InstructionSet::Core, alloc, text.as_bytes()) else {
         return format!(in alloc; "text");
     };
-    let Ok(packets) = read_listing(alloc, listing.as_bytes()) else {
+    let Ok(packets) = read_listing(InstructionSet::Core, alloc, listing.as_bytes()) else {
         return format!(in alloc; "listing");
     };
     if !packets.closed() {
         return format!(in alloc; "closed");
     }
-    let pipelining = pipeline(alloc, &program, &packets, promises)?;
+    let pipelining = pipeline(InstructionSet::Core, alloc, &program, &packets, promises)?;
     let mut lines = String::new(alloc);
     for choice in &pipelining.loops {
         let number = choice.number;

@@ -2,6 +2,7 @@
 
 use crate::expect::equal;
 use c62_listing_reader::read_listing;
+use c62_op::InstructionSet;
 use c62_show::picture;
 use c62_standing::{Details, shown_as_they_stand};
 use std::alloc::Global;
@@ -70,7 +71,7 @@ const ALL: Details = Details {
 
 /// The picture of a listing.
 fn drawn(alloc: Global, listing: &str, details: Details) -> Result<String, Fail> {
-    let packets = read_listing(alloc, listing.as_bytes())?;
+    let packets = read_listing(InstructionSet::Core, alloc, listing.as_bytes())?;
     let shown = shown_as_they_stand(alloc, &packets, details)?;
     Ok(picture(alloc, &shown)?)
 }

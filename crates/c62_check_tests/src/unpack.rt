@@ -1,6 +1,7 @@
 //! Listings, and the order in which their instructions stand in a serial text.
 
 use c62_listing_reader::read_listing;
+use c62_op::InstructionSet;
 use c62_unpack::unpack;
 use std::alloc::Global;
 use std::test::Fail;
@@ -35,7 +36,7 @@ const ORDERS: [(&str, &str); 10] = [
 
 /// The lines of a listing's instructions in the order of their serial block.
 fn order_of(alloc: Global, listing: &str) -> Result<String, Fail> {
-    let packets = read_listing(alloc, listing.as_bytes())?;
+    let packets = read_listing(InstructionSet::Core, alloc, listing.as_bytes())?;
     let mut text = String::new(alloc);
     for block in packets.blocks() {
         match unpack(alloc, block)? {

@@ -476,7 +476,7 @@ fn bare_command<'a>(alloc: Global) -> Command<'a>
         .about("Packs and runs TMS320C62x instructions")
         .override_usage("c62 <COMMAND>\n       c62              (this is c62 pack --turns)")
         .after_help(ending!(
-            "`c62 lint kernel.s` prints all faults of a text, and `c62 explain BadUnit` says what a\nfault is; --explain behind a command says what is wrong with its text.\n\n",
+            "`c62 lint kernel.s` prints all faults of a text, and `c62 explain BadUnit` says what a\nfault is; --explain behind a command says what is wrong with its text.\n\n`--isa full` behind a command takes all instructions of the C62x's integer core. Without it\nc62 knows 41 of them.\n\n",
             "c62 run kernel.s A4=8"
         ))
         .no_binary_name(true)

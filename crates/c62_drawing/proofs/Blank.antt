@@ -22,6 +22,7 @@ use Rattle.c62_drawing.specs.declared.draw.Drawn.{Drawn}
 use Rattle.c62_drawing.specs.declared.draw.Drawn.TheVariants.{Trace, Wave}
 use Rattle.c62_drawing.specs.declared.run.Traced.{Traced}
 use Rattle.c62_drawing.specs.Traced.{DrawsFlight, DrawsFlying, DrawsPackets, DrawsRequest, DrawsStanding, Gets}
+use Rattle.c62_op.specs.declared.set.InstructionSet.{InstructionSet}
 
 -- so much is drawn on a blank sheet, and a sheet that was blank has it
 abbrev pub OnBlank : (Option (List ℕ) → Option (List ℕ) → Type 0) → (old new : Option (List ℕ)) → Type 0
@@ -100,47 +101,55 @@ flight_blank drawn window text labels first course settings whole old new d =
       blank.2,
     )
 
-standing_blank : (drawn : Drawn) (window : Window) (form : Form) (course : Course) (settings : List Setting)
+standing_blank : (isa : InstructionSet) (drawn : Drawn) (window : Window) (form : Form) (course : Course)
+    (settings : List Setting)
     (text : List ℕ) (traced : Traced) (old new : Option (List ℕ))
-    → DrawsStanding drawn window form course settings text traced old new
-    → OnBlank (DrawsStanding drawn window form course settings text traced) old new
-standing_blank drawn window form course settings text traced old new (inl d) =
+    → DrawsStanding isa drawn window form course settings text traced old new
+    → OnBlank (DrawsStanding isa drawn window form course settings text traced) old new
+standing_blank isa drawn window form course settings text traced old new (inl d) =
     let blank = packets_blank drawn window d.0 course settings d.2 old new d.4 in
     (blank.0, inl (d.0, d.1, d.2, d.3, blank.1), blank.2)
-standing_blank drawn window form course settings text traced old new (inr d) =
+standing_blank isa drawn window form course settings text traced old new (inr d) =
     ([], inr (d.0, d.1, d.2, refl), λ blank. d.3 ∙ blank)
 
-flying_blank : (drawn : Drawn) (window : Window) (alone : Bool) (from : Option Text) (course : FlightCourse)
+flying_blank : (isa : InstructionSet) (drawn : Drawn) (window : Window) (alone : Bool) (from : Option Text)
+    (course : FlightCourse)
     (settings : List Setting) (text : List ℕ) (traced : Traced) (old new : Option (List ℕ))
-    → DrawsFlying drawn window alone from course settings text traced old new
-    → OnBlank (DrawsFlying drawn window alone from course settings text traced) old new
-flying_blank drawn window alone from course settings text traced old new (inl d) =
+    → DrawsFlying isa drawn window alone from course settings text traced old new
+    → OnBlank (DrawsFlying isa drawn window alone from course settings text traced) old new
+flying_blank isa drawn window alone from course settings text traced old new (inl d) =
     let blank = flight_blank drawn window _ d.0.labels.entries d.0.first course settings d.2 old new d.4 in
     (blank.0, inl (d.0, d.1, d.2, d.3, blank.1), blank.2)
-flying_blank drawn window alone from course settings text traced old new (inr d) =
+flying_blank isa drawn window alone from course settings text traced old new (inr d) =
     ([], inr (d.0, d.1, refl), λ blank. d.2 ∙ blank)
 
-pub request_blank : (drawn : Drawn) (window : Window) (asked : Request) (text : List ℕ) (traced : Traced)
-    (old new : Option (List ℕ)) → DrawsRequest drawn window asked text traced old new
-    → OnBlank (DrawsRequest drawn window asked text traced) old new
-request_blank drawn window (request.Sim form start) text traced old new d =
-    standing_blank drawn window form start.course start.settings.items text traced old new d
-request_blank drawn window (request.Exec start) text traced old new d =
-    flying_blank drawn window start.alone (option_map (λ name. name.items) start.from) start.course start.settings.items
+pub request_blank : (isa : InstructionSet) (drawn : Drawn) (window : Window) (asked : Request) (text : List ℕ)
+    (traced : Traced)
+    (old new : Option (List ℕ)) → DrawsRequest isa drawn window asked text traced old new
+    → OnBlank (DrawsRequest isa drawn window asked text traced) old new
+request_blank isa drawn window (request.Sim form start) text traced old new d =
+    standing_blank isa drawn window form start.course start.settings.items text traced old new d
+request_blank isa drawn window (request.Exec start) text traced old new d =
+    flying_blank isa drawn window start.alone
+    (option_map (λ name. name.items) start.from) start.course start.settings.items
     text traced old new d
-request_blank drawn window (request.Pack packing) text traced old new d = ([], (d.0, refl), λ blank. d.1 ∙ blank)
-request_blank drawn window (request.Show showing) text traced old new d = ([], (d.0, refl), λ blank. d.1 ∙ blank)
-request_blank drawn window (request.ShowListing showing) text traced old new d =
+request_blank isa drawn window (request.Pack packing) text traced old new d = ([], (d.0, refl), λ blank. d.1 ∙ blank)
+request_blank isa drawn window (request.Show showing) text traced old new d = ([], (d.0, refl), λ blank. d.1 ∙ blank)
+request_blank isa drawn window (request.ShowListing showing) text traced old new d =
     ([], (d.0, refl), λ blank. d.1 ∙ blank)
-request_blank drawn window (request.ShowPackets showing) text traced old new d =
+request_blank isa drawn window (request.ShowPackets showing) text traced old new d =
     ([], (d.0, refl), λ blank. d.1 ∙ blank)
-request_blank drawn window (request.Run packing start) text traced old new d = ([], (d.0, refl), λ blank. d.1 ∙ blank)
-request_blank drawn window (request.Serial start bases) text traced old new d = ([], (d.0, refl), λ blank. d.1 ∙ blank)
-request_blank drawn window (request.Adopt adopting) text traced old new d = ([], (d.0, refl), λ blank. d.1 ∙ blank)
-request_blank drawn window (request.Check form) text traced old new d = ([], (d.0, refl), λ blank. d.1 ∙ blank)
-request_blank drawn window (request.CheckLoops promises) text traced old new d = ([], (d.0, refl), λ blank. d.1 ∙ blank)
-request_blank drawn window (request.PackLoops looping) text traced old new d = ([], (d.0, refl), λ blank. d.1 ∙ blank)
-request_blank drawn window (request.ShowLoops looping drawing) text traced old new d =
+request_blank isa drawn window (request.Run packing start) text traced old new d =
     ([], (d.0, refl), λ blank. d.1 ∙ blank)
-request_blank drawn window (request.RunLoops looping flight) text traced old new d =
+request_blank isa drawn window (request.Serial start bases) text traced old new d =
+    ([], (d.0, refl), λ blank. d.1 ∙ blank)
+request_blank isa drawn window (request.Adopt adopting) text traced old new d = ([], (d.0, refl), λ blank. d.1 ∙ blank)
+request_blank isa drawn window (request.Check form) text traced old new d = ([], (d.0, refl), λ blank. d.1 ∙ blank)
+request_blank isa drawn window (request.CheckLoops promises) text traced old new d =
+    ([], (d.0, refl), λ blank. d.1 ∙ blank)
+request_blank isa drawn window (request.PackLoops looping) text traced old new d =
+    ([], (d.0, refl), λ blank. d.1 ∙ blank)
+request_blank isa drawn window (request.ShowLoops looping drawing) text traced old new d =
+    ([], (d.0, refl), λ blank. d.1 ∙ blank)
+request_blank isa drawn window (request.RunLoops looping flight) text traced old new d =
     ([], (d.0, refl), λ blank. d.1 ∙ blank)

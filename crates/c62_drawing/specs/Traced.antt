@@ -32,6 +32,7 @@ use Rattle.c62_drawing.specs.declared.draw.Drawn.TheVariants.{Trace, Wave}
 use Rattle.c62_drawing.specs.declared.run.Traced.{Traced}
 use Rattle.c62_drawing.specs.declared.run.Traced.TheVariants.{Nothing, Whole, Cut}
 use Rattle.c62_drawing.specs.Found.{FindsFlight}
+use Rattle.c62_op.specs.declared.set.InstructionSet.{InstructionSet}
 
 -- A stream got the lines of these events that a window shows, with the names of what branches go to, and by their addresses: all of
 -- them, or a front where it took no more.
@@ -76,24 +77,24 @@ abbrev pub of_whole : Bool → Traced
 of_whole whole = if whole then Whole else Cut
 
 -- the text says packets of this form, whose run is drawn, or it is refused, and nothing is written
-abbrev pub DrawsStanding : Drawn → Window → Form → Course → List Setting → (text : List ℕ) → Traced → (old new : Option (List ℕ)) → Type 0
-DrawsStanding drawn window form course settings text traced old new =
-    ((packets : List Packed) × SaysPackets form text packets
+abbrev pub DrawsStanding : InstructionSet → Drawn → Window → Form → Course → List Setting → (text : List ℕ) → Traced → (old new : Option (List ℕ)) → Type 0
+DrawsStanding isa drawn window form course settings text traced old new =
+    ((packets : List Packed) × SaysPackets isa form text packets
     × (whole : Bool) × (traced ≡ of_whole whole) × DrawsPackets drawn window packets course settings whole old new)
-    ⊎ ((message : List ℕ) × SaysNoPackets form text message × (traced ≡ Nothing) × (new ≡ old))
+    ⊎ ((message : List ℕ) × SaysNoPackets isa form text message × (traced ≡ Nothing) × (new ≡ old))
 
 -- so it is with a text of packets in flight
-abbrev pub DrawsFlying : Drawn → Window → (alone : Bool) → (from : Option Text) → FlightCourse → List Setting → (text : List ℕ) → Traced → (old new : Option (List ℕ)) → Type 0
-DrawsFlying drawn window alone from course settings text traced old new =
-    ((begun : Begun) × FindsFlight alone from text (Some begun)
+abbrev pub DrawsFlying : InstructionSet → Drawn → Window → (alone : Bool) → (from : Option Text) → FlightCourse → List Setting → (text : List ℕ) → Traced → (old new : Option (List ℕ)) → Type 0
+DrawsFlying isa drawn window alone from course settings text traced old new =
+    ((begun : Begun) × FindsFlight isa alone from text (Some begun)
     × (whole : Bool) × (traced ≡ of_whole whole)
     × DrawsFlight drawn window (text_of begun.rows) begun.labels.entries begun.first course settings whole old new)
-    ⊎ (FindsFlight alone from text None × (traced ≡ Nothing) × (new ≡ old))
+    ⊎ (FindsFlight isa alone from text None × (traced ≡ Nothing) × (new ≡ old))
 
 -- What a stream gets of the run that is asked for: what is drawn of a run of packets, and of others nothing.
-abbrev pub DrawsRequest : Drawn → Window → Request → (text : List ℕ) → Traced → (old new : Option (List ℕ)) → Type 0
-DrawsRequest drawn window (Sim form start) text traced old new =
-    DrawsStanding drawn window form start.course start.settings.items text traced old new
-DrawsRequest drawn window (Exec start) text traced old new =
-    DrawsFlying drawn window start.alone (option_map (λ name. name.items) start.from) start.course start.settings.items text traced old new
-DrawsRequest drawn window request text traced old new = (traced ≡ Nothing) × (new ≡ old)
+abbrev pub DrawsRequest : InstructionSet → Drawn → Window → Request → (text : List ℕ) → Traced → (old new : Option (List ℕ)) → Type 0
+DrawsRequest isa drawn window (Sim form start) text traced old new =
+    DrawsStanding isa drawn window form start.course start.settings.items text traced old new
+DrawsRequest isa drawn window (Exec start) text traced old new =
+    DrawsFlying isa drawn window start.alone (option_map (λ name. name.items) start.from) start.course start.settings.items text traced old new
+DrawsRequest isa drawn window request text traced old new = (traced ≡ Nothing) × (new ≡ old)

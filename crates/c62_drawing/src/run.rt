@@ -6,6 +6,7 @@ ghost use Rattle.c62_drawing.specs.Traced.{DrawsFlying, DrawsRequest, DrawsStand
 use crate::draw::{Drawn, draw_flight, draw_packets};
 use crate::read::{flight_in, packets_in};
 use c62_command::{FlightStart, Form, Request, Start};
+use c62_op::InstructionSet;
 use c62_trace::Window;
 use std::alloc::{AllocError, Global};
 use std::io::Write;
@@ -38,6 +39,7 @@ fn of_taken(whole: Result<bool, AllocError>) -> Result<Traced, AllocError>
 /// Draws the run of packets of this form, as they stand.
 #[tactic(auto, using(crate::proofs::Tracing::standing_some, crate::proofs::Tracing::standing_none))]
 fn draw_standing<W: Write + Drop>(
+    isa: InstructionSet,
     alloc: Global,
     drawn: Drawn,
     form: Form,
@@ -47,10 +49,10 @@ fn draw_standing<W: Write + Drop>(
     text: &[u8],
     stream: W,
 ) -> (W, Result<Traced, AllocError>)
-    ensures { IfOk result.1 (λ traced. DrawsStanding drawn window form start.now.course start.now.settings.items text.now traced
+    ensures { IfOk result.1 (λ traced. DrawsStanding isa drawn window form start.now.course start.now.settings.items text.now traced
         (W.contents stream) (W.contents result.0)) }
 {
-    match packets_in(alloc, form, text) {
+    match packets_in(isa, alloc, form, text) {
         Err(error) => (stream, Err(error)),
         Ok(None) => (stream, Ok(Traced::Nothing)),
         Ok(Some(packets)) => {
@@ -63,6 +65,7 @@ fn draw_standing<W: Write + Drop>(
 /// Draws the run of a text of packets in flight.
 #[tactic(auto, using(crate::proofs::Tracing::flying_some, crate::proofs::Tracing::flying_none, crate::proofs::Tracing::issuable))]
 fn draw_flying<W: Write + Drop>(
+    isa: InstructionSet,
     alloc: Global,
     drawn: Drawn,
     start: &FlightStart,
@@ -71,10 +74,10 @@ fn draw_flying<W: Write + Drop>(
     text: &[u8],
     stream: W,
 ) -> (W, Result<Traced, AllocError>)
-    ensures { IfOk result.1 (λ traced. DrawsFlying drawn window start.now.alone (option_map (λ name. name.items) start.now.from)
+    ensures { IfOk result.1 (λ traced. DrawsFlying isa drawn window start.now.alone (option_map (λ name. name.items) start.now.from)
         start.now.course start.now.settings.items text.now traced (W.contents stream) (W.contents result.0)) }
 {
-    match flight_in(alloc, start, text) {
+    match flight_in(isa, alloc, start, text) {
         Err(error) => (stream, Err(error)),
         Ok(None) => (stream, Ok(Traced::Nothing)),
         Ok(Some(begun)) => {
@@ -97,6 +100,7 @@ fn draw_flying<W: Write + Drop>(
 ///
 /// `AllocError` where memory ran out. The stream may have got a front then.
 pub fn draw_text<W: Write + Drop>(
+    isa: InstructionSet,
     alloc: Global,
     drawn: Drawn,
     request: &Request,
@@ -105,13 +109,13 @@ pub fn draw_text<W: Write + Drop>(
     text: &[u8],
     stream: W,
 ) -> (W, Result<Traced, AllocError>)
-    ensures { IfOk result.1 (λ traced. DrawsRequest drawn window request.now text.now traced (W.contents stream) (W.contents result.0)) }
+    ensures { IfOk result.1 (λ traced. DrawsRequest isa drawn window request.now text.now traced (W.contents stream) (W.contents result.0)) }
 {
     match request {
         Request::Sim(form, start) => draw_standing(
-            alloc, drawn, *form, start, window, room, text, stream,
+            isa, alloc, drawn, *form, start, window, room, text, stream,
         ),
-        Request::Exec(start) => draw_flying(alloc, drawn, start, window, room, text, stream),
+        Request::Exec(start) => draw_flying(isa, alloc, drawn, start, window, room, text, stream),
         _ => (stream, Ok(Traced::Nothing)),
     }
 }

@@ -45,6 +45,7 @@ use Rattle.c62_exec_back.proofs.Together.{AreBoth, text_both}
 use Rattle.c62_exec_back.proofs.ReadTexts.{flies_as_run, no_words}
 use Rattle.c62_adopt_cut.specs.declared.text.TheConstants.{MOST_BYTES}
 use Rattle.c62_rows.specs.declared.reader.TheConstants.{MOST_TARGETS}
+use Rattle.c62_op.specs.declared.set.InstructionSet.{InstructionSet}
 
 -- ---- rows in which no label stands for a word are as they are read
 
@@ -121,42 +122,45 @@ none_lost (target ∷ targets) labels known =
     by None e rest = absurd cc
     by (Some row) e rest = rest
 
-short_text : (text : List ℕ) → (text_cut text).fault ≡ None → length text ≤ MOST_BYTES
+short_text : (isa : InstructionSet) (text : List ℕ) → (text_cut isa text).fault ≡ None → length text ≤ MOST_BYTES
 unfolding text_cut
-short_text text none = elim (cases_Bool (ltb MOST_BYTES (length text))) [
+short_text isa text none = elim (cases_Bool (ltb MOST_BYTES (length text))) [
   | inl long ↦ absurd (let no = rw long at none in cc)
   | inr short ↦ grind (arith, nat_tests, short)
 ]
 
-read_whole : (text : List ℕ) → length text ≤ MOST_BYTES → text_cut text ≡ read_below [] no_drafts 1 (lines_of text)
+read_whole : (isa : InstructionSet) (text : List ℕ) → length text ≤ MOST_BYTES
+    → text_cut isa text ≡ read_below isa [] no_drafts 1 (lines_of text)
 unfolding text_cut
-read_whole text short = let few : ltb MOST_BYTES (length text) ≡ false = grind (arith, nat_tests, short) in rw few refl
+read_whole isa text short = let few : ltb MOST_BYTES (length text) ≡ false =
+    grind (arith, nat_tests, short) in rw few refl
 
 none_fine : (given : List Name) → IsFine given [] no_drafts no_reading
 none_fine given = record { rows = none_read; sound = none_sound; apart = tt; known = λ name h. absurd h }
 
-module _ (text : List ℕ) (packets : List Packed) (adopted : IsAdopted false text packets 0) where
+module _ (isa : InstructionSet) (text : List ℕ) (packets : List Packed)
+    (adopted : IsAdopted isa false text packets 0) where
   abbrev code : List ℕ
-  code = code_in (code_read text)
+  code = code_in (code_read isa text)
 
   abbrev found : Cut
-  found = code_cut text
+  found = code_cut isa text
 
   is_short : length code ≤ MOST_BYTES
-  is_short = short_text code adopted.read.cut.whole
+  is_short = short_text isa code adopted.read.cut.whole
 
-  none_faulty : (read_below [] no_drafts 1 (lines_of code)).fault ≡ None
-  none_faulty = ap (λ (cut : Cut). cut.fault) (sym (read_whole code is_short)) ∙ adopted.read.cut.whole
+  none_faulty : (read_below isa [] no_drafts 1 (lines_of code)).fault ≡ None
+  none_faulty = ap (λ (cut : Cut). cut.fault) (sym (read_whole isa code is_short)) ∙ adopted.read.cut.whole
 
-  theirs : AreTheirs (all_lines [] (lines_of code)) found
-  theirs = subst (AreTheirs (all_lines [] (lines_of code))) (sym (read_whole code is_short))
-      (read_theirs [] 1 no_drafts (lines_of code) none_home none_faulty)
+  theirs : AreTheirs (all_lines isa [] (lines_of code)) found
+  theirs = subst (AreTheirs (all_lines isa [] (lines_of code))) (sym (read_whole isa code is_short))
+      (read_theirs isa [] 1 no_drafts (lines_of code) none_home none_faulty)
 
-  are_adopted : AreAdopted (all_lines [] (lines_of code)) found.cycles found.drafts packets
+  are_adopted : AreAdopted (all_lines isa [] (lines_of code)) found.cycles found.drafts packets
   are_adopted = record {
     over = blocks_are_over false found adopted.read.cut.over;
     blocks = adopted.read.cut.blocks;
-    aimed = blocks_are_aimed code;
+    aimed = blocks_are_aimed isa code;
     of_lines = theirs.blocks;
     rising = are_rising found.cycles found.drafts theirs.blocks.rising
         (subst (λ n. AllByRecursion (λ start. start ≤ n) (starts_of found.drafts)) (sym theirs.cycles)
@@ -164,19 +168,21 @@ module _ (text : List ℕ) (packets : List Packed) (adopted : IsAdopted false te
   }
 
   few_given : length (labels_given found.drafts) < MOST_TARGETS
-  few_given = let l = few_labels found.drafts in let few = (blocks_are_fine code).few in omega (arith, l, few)
+  few_given = let l = few_labels found.drafts in let few = (blocks_are_fine isa code).few in omega (arith, l, few)
 
-  is_read : IsRead (all_lines [] (lines_of code)) found.cycles found.drafts packets are_adopted few_given 1 no_reading
+  is_read : IsRead isa (all_lines isa [] (lines_of code)) found.cycles found.drafts packets are_adopted few_given 1
+      no_reading
       (lines_of code)
-  is_read = lines_read (all_lines [] (lines_of code)) found.cycles found.drafts packets are_adopted few_given [] 1
+  is_read = lines_read isa (all_lines isa [] (lines_of code)) found.cycles found.drafts packets are_adopted few_given
+      [] 1
       no_drafts (lines_of code) no_reading none_home
       (none_fine (labels_given found.drafts)) (λ h there. there) none_faulty
 
-  is_reading : IsReading code is_read.reading
+  is_reading : IsReading isa code is_read.reading
   is_reading = record { short = is_short; leads = is_read.leads }
 
   read_so : AreBoth found is_read.reading
-  read_so = text_both code is_read.reading is_reading adopted.read.cut.whole
+  read_so = text_both isa code is_read.reading is_reading adopted.read.cut.whole
 
   all_found : lost_among is_read.reading.targets is_read.reading.labels ≡ None
   all_found = none_lost is_read.reading.targets is_read.reading.labels
@@ -186,7 +192,7 @@ module _ (text : List ℕ) (packets : List Packed) (adopted : IsAdopted false te
       same = same_names (all_drafts read_so.drafts) is_read.reading.done is_read.reading.labels read_so.rows.labels
           ∙ ap labels_given (sym read_so.all)
 
-  pub is_taken : ReadsInFlight text
+  pub is_taken : ReadsInFlight isa text
   is_taken = record {
     flying = record {
       rows = all_rows is_read.reading;
@@ -207,26 +213,26 @@ module _ (text : List ℕ) (packets : List Packed) (adopted : IsAdopted false te
     };
   }
 
-each_flies : (text : List ℕ) (packets : List Packed) → IsAdopted false text packets 0
-    → (flying : Text) (labels : List (Name × ℕ)) → IsText (code_in (code_read text)) flying labels
+each_flies : (isa : InstructionSet) (text : List ℕ) (packets : List Packed) → IsAdopted isa false text packets 0
+    → (flying : Text) (labels : List (Name × ℕ)) → IsText isa (code_in (code_read isa text)) flying labels
     → FliesAsRun flying packets
-each_flies text packets adopted flying labels is =
+each_flies isa text packets adopted flying labels is =
     let f : FliesAsRun (record { rows = all_rows is.reading; aims = aims_among is.reading.targets is.reading.labels })
     packets
-    = flies_as_run text packets adopted is.reading is.reads is.found in
+    = flies_as_run isa text packets adopted is.reading is.reads is.found in
     subst (λ (t : Text). FliesAsRun t packets)
-    (same_flying is.reading flying (no_words text packets adopted is.reading is.reads is.found) is.flies) f
+    (same_flying is.reading flying (no_words isa text packets adopted is.reading is.reads is.found) is.flies) f
 
-pub adopted_flies : (text : List ℕ) → AdoptedFlies text
-adopted_flies text packets adopted = record
-    { reads = is_taken text packets adopted; flies = each_flies text packets adopted }
+pub adopted_flies : (isa : InstructionSet) (text : List ℕ) → AdoptedFlies isa text
+adopted_flies isa text packets adopted = record
+    { reads = is_taken isa text packets adopted; flies = each_flies isa text packets adopted }
 
-pub listings_fly : (packets : List Packed) → ListingsFly packets
-listings_fly packets shown parted =
-    let stays = listings_stay false packets shown parted in
+pub listings_fly : (isa : InstructionSet) (packets : List Packed) → ListingsFly isa packets
+listings_fly isa packets shown parted =
+    let stays = listings_stay isa false packets shown parted in
     record {
       others = stays.others;
       alike = stays.alike;
-      flies = adopted_flies (listing packets) stays.others
+      flies = adopted_flies isa (listing packets) stays.others
           stays.adopted;
     }

@@ -25,6 +25,7 @@ use Rattle.c62_adopt_cut.proofs.KeptLemmas.{IsFree, unhindered}
 use Rattle.c62_meaning.proofs.Lookup.{In, In-append_left}
 use Rattle.c62_flight.specs.Text.{Row}
 use Rattle.c62_exec_back.proofs.ReadRows.{IsOpen, labelled, labelled_by, begun_in}
+use Rattle.c62_op.specs.declared.set.InstructionSet.{InstructionSet}
 
 -- ---- all lines of a text
 
@@ -33,58 +34,60 @@ with_said (Ok line) above = line ∷ above
 with_said (Err fault) above = above
 
 -- what these lines say below others, the last first
-abbrev pub all_lines : List Line → List (List ℕ) → List Line
-all_lines above [] = above
-all_lines above (bytes ∷ lines) = all_lines (with_said (line_says bytes) above) lines
+abbrev pub all_lines : InstructionSet → List Line → List (List ℕ) → List Line
+all_lines isa above [] = above
+all_lines isa above (bytes ∷ lines) = all_lines isa (with_said (line_says isa bytes) above) lines
 
 said_has : (said : Result Line LineFault) (above : List Line) (h : Home) → In h (homes_in above)
     → In h (homes_in (with_said said above))
 said_has (Ok line) above h there = In-append_left h (homes_in above) _ there
 said_has (Err fault) above h there = there
 
-pub all_have : (above : List Line) (lines : List (List ℕ)) (h : Home) → In h (homes_in above)
-    → In h (homes_in (all_lines above lines))
-all_have above [] h there = there
-all_have above (bytes ∷ lines) h there = all_have (with_said (line_says bytes) above) lines h
-    (said_has (line_says bytes) above h there)
+pub all_have : (isa : InstructionSet) (above : List Line) (lines : List (List ℕ)) (h : Home) → In h (homes_in above)
+    → In h (homes_in (all_lines isa above lines))
+all_have isa above [] h there = there
+all_have isa above (bytes ∷ lines) h there = all_have isa (with_said (line_says isa bytes) above) lines h
+    (said_has (line_says isa bytes) above h there)
 
 -- the blocks that are read below are theirs
 pub record AreTheirs (lines : List Line) (cut : Cut) : Type 0 where
   pub blocks : AreOfLines lines cut.drafts
   pub cycles : cut.cycles ≡ cycles_of lines
 
-module _ (above : List Line) (number : ℕ) (drafts : Drafts) (bytes : List ℕ) (lines : List (List ℕ))
+module _ (isa : InstructionSet) (above : List Line) (number : ℕ) (drafts : Drafts) (bytes : List ℕ)
+    (lines : List (List ℕ))
     (home : AreHome above number drafts) (read : Line → Cut)
     (behind : (line : Line) → AreHome (line ∷ above) (number + 1) (with_line number (stand_of above line) line drafts)
-    → (read line).fault ≡ None → AreTheirs (all_lines (line ∷ above) lines) (read line)) where
-  hindered_theirs : (line : Line) → line_says bytes ≡ Ok line → (found : Option TextCause)
+    → (read line).fault ≡ None → AreTheirs (all_lines isa (line ∷ above) lines) (read line)) where
+  hindered_theirs : (line : Line) → line_says isa bytes ≡ Ok line → (found : Option TextCause)
       → (found ≡ None → IsFree above drafts line)
       → (and_line above drafts number (unless_hindered found line) read).fault ≡ None
-      → AreTheirs (all_lines (line ∷ above) lines)
+      → AreTheirs (all_lines isa (line ∷ above) lines)
       (and_line above drafts number (unless_hindered found line) read)
   hindered_theirs line says (Some cause) free none = absurd cc
   hindered_theirs line says None free none = behind line
-      (line_home above number drafts line (line_whole bytes line says) (free refl) home) none
+      (line_home isa above number drafts line (line_whole isa bytes line says) (free refl) home) none
 
-  said_theirs : (said : Result Line LineFault) → line_says bytes ≡ said
+  said_theirs : (said : Result Line LineFault) → line_says isa bytes ≡ said
       → (and_line above drafts number (judged above drafts said) read).fault ≡ None
-      → AreTheirs (all_lines (with_said said above) lines)
+      → AreTheirs (all_lines isa (with_said said above) lines)
       (and_line above drafts number (judged above drafts said) read)
   said_theirs (Err fault) is none = absurd cc
   said_theirs (Ok line) is none = hindered_theirs line is (hindrance above drafts line) (unhindered above drafts line)
       none
 
-pub read_theirs : (above : List Line) (number : ℕ) (drafts : Drafts) (lines : List (List ℕ))
-    → AreHome above number drafts → (read_below above drafts number lines).fault ≡ None
-    → AreTheirs (all_lines above lines) (read_below above drafts number lines)
+pub read_theirs : (isa : InstructionSet) (above : List Line) (number : ℕ) (drafts : Drafts) (lines : List (List ℕ))
+    → AreHome above number drafts → (read_below isa above drafts number lines).fault ≡ None
+    → AreTheirs (all_lines isa above lines) (read_below isa above drafts number lines)
 unfolding read_below
-read_theirs above number drafts [] home none = record { blocks = are_of_lines above number drafts home; cycles = refl }
-read_theirs above number drafts (bytes ∷ lines) home none =
-    said_theirs above number drafts bytes lines home
-    (λ line. read_below (line ∷ above) (with_line number (stand_of above line) line drafts) (number + 1) lines)
-    (λ line more fine. read_theirs (line ∷ above) (number + 1) (with_line number (stand_of above line) line drafts)
+read_theirs isa above number drafts [] home none =
+    record { blocks = are_of_lines above number drafts home; cycles = refl }
+read_theirs isa above number drafts (bytes ∷ lines) home none =
+    said_theirs isa above number drafts bytes lines home
+    (λ line. read_below isa (line ∷ above) (with_line number (stand_of above line) line drafts) (number + 1) lines)
+    (λ line more fine. read_theirs isa (line ∷ above) (number + 1) (with_line number (stand_of above line) line drafts)
     lines more fine)
-    (line_says bytes) refl none
+    (line_says isa bytes) refl none
 
 -- ---- names
 

@@ -50,15 +50,17 @@ use Rattle.c62_exec_back.proofs.Stood.{stood_at, stood_append, stood_from}
 use Rattle.c62_exec_back.proofs.LineLabels.{with_said, all_lines, all_have, open_alike}
 use Rattle.c62_exec_back.proofs.NamedTargets.{IsFine, named_fine, target_known, few_targets, not_taken}
 use Rattle.c62_rows.specs.declared.reader.TheConstants.{MOST_TARGETS}
+use Rattle.c62_op.specs.declared.set.InstructionSet.{InstructionSet}
 
-module _ (lines : List Line) (end : ℕ) (blocks : List Draft) (packets : List Packed)
+module _ (isa : InstructionSet) (lines : List Line) (end : ℕ) (blocks : List Draft) (packets : List Packed)
     (are : AreAdopted lines end blocks packets) (few : length (labels_given blocks) < MOST_TARGETS) where
   abbrev given : List Name
   given = labels_given blocks
 
   module _ (above : List Line) (number : ℕ) (drafts : Drafts) (line : Line) (bytes : List ℕ) (old : Reading)
-      (fine : IsFine given above drafts old) (whole : IsWhole line)
-      (free : IsFree above drafts line) (counted : number ≡ length above + 1) (says_line : line_says bytes ≡ Ok line)
+      (fine : IsFine given above drafts old) (whole : IsWhole isa line)
+      (free : IsFree above drafts line) (counted : number ≡ length above + 1)
+      (says_line : line_says isa bytes ≡ Ok line)
       (sub : (h : Home) → In h (homes_in (line ∷ above)) → In h (homes_in lines)) where
     abbrev said : Said
     said = record { line = line; word = None }
@@ -66,7 +68,7 @@ module _ (lines : List Line) (end : ℕ) (blocks : List Draft) (packets : List P
     abbrev mid : Reading
     mid = at_line line old
 
-    says_said : row_says bytes ≡ Ok said
+    says_said : row_says isa bytes ≡ Ok said
     unfolding row_says
     says_said = rw says_line refl
 
@@ -111,8 +113,7 @@ module _ (lines : List Line) (end : ℕ) (blocks : List Draft) (packets : List P
         near lines end blocks packets are h0 (sub h0 there) n q0 pair0 old.targets r.0 (stood_at (span mid.done) x)
         (sub r.0 (In-append_left r.0 (homes_in above) _ r.1)) r.2
         (All-contains (λ (y : Placed). y.cycle ≡ 0) row.insns x row_is.cycles (Contains_from_In x row.insns h))
-        (at_row.2 ∙ sym when))
-        (units_rise row.insns row_is.in_order)
+        (at_row.2 ∙ sym when)) (units_rise row.insns row_is.in_order)
         (λ x h.
         let s = stood row at_row.1 x h in
         let r = fine.rows.from (stood_at (span mid.done) x) s in
@@ -224,18 +225,18 @@ module _ (lines : List Line) (end : ℕ) (blocks : List Draft) (packets : List P
     next_is (Jumps parts target) e = jumps_next parts target e
 
     -- the line is read, and what was read is fine
-    pub line_reads : (next : Reading) × AddsLine number bytes old next
+    pub line_reads : (next : Reading) × AddsLine isa number bytes old next
         × IsFine given (line ∷ above) (with_line number (stand_of above line) line drafts) next
     line_reads =
         let n = next_is line.says refl in
-        let adds : AddsLine number bytes old n.next = record
+        let adds : AddsLine isa number bytes old n.next = record
         { said = said; says = says_said; free = unhindered_row; adds = n.adds } in (
           n.next,
           adds,
           record {
             rows = line_steps above number drafts line.beside line.label old n.next fine.rows open_row whole.beside
-                counted line.says (line_lasts bytes line says_line) n.adds;
-            sound = line_sound number bytes old n.next fine.sound adds;
+                counted line.says (line_lasts isa bytes line says_line) n.adds;
+            sound = line_sound isa number bytes old n.next fine.sound adds;
             apart = n.apart;
             known = n.known;
           },
@@ -246,30 +247,28 @@ module _ (lines : List Line) (end : ℕ) (blocks : List Draft) (packets : List P
   -- what is read of lines below others
   pub record IsRead (number : ℕ) (old : Reading) (rest : List (List ℕ)) : Type 0 where
     pub reading : Reading
-    pub leads : LeadsTo number old rest reading
+    pub leads : LeadsTo isa number old rest reading
     pub above : List Line
     pub drafts : Drafts
     pub fine : IsFine given above drafts reading
 
   module _ (above : List Line) (number : ℕ) (drafts : Drafts) (bytes : List ℕ) (rest : List (List ℕ)) (old : Reading)
-      (home : AreHome above number drafts) (fine : IsFine given above drafts old)
-      (read : Line → Cut)
+      (home : AreHome above number drafts) (fine : IsFine given above drafts old) (read : Line → Cut)
       (behind : (line : Line) (next : Reading)
       → AreHome (line ∷ above) (number + 1) (with_line number (stand_of above line) line drafts)
       → IsFine given (line ∷ above) (with_line number (stand_of above line) line drafts) next
-      → ((h : Home) → In h (homes_in (all_lines (line ∷ above) rest)) → In h (homes_in lines))
+      → ((h : Home) → In h (homes_in (all_lines isa (line ∷ above) rest)) → In h (homes_in lines))
       → (read line).fault ≡ None → IsRead (number + 1) next rest) where
-    hindered_reads : (line : Line) → line_says bytes ≡ Ok line
-        → ((h : Home) → In h (homes_in (all_lines (line ∷ above) rest)) → In h (homes_in lines))
-        → (found : Option TextCause)
-        → (found ≡ None → IsFree above drafts line)
+    hindered_reads : (line : Line) → line_says isa bytes ≡ Ok line
+        → ((h : Home) → In h (homes_in (all_lines isa (line ∷ above) rest)) → In h (homes_in lines))
+        → (found : Option TextCause) → (found ≡ None → IsFree above drafts line)
         → (and_line above drafts number (unless_hindered found line) read).fault ≡ None
         → IsRead number old (bytes ∷ rest)
     hindered_reads line says sub (Some cause) free none = absurd cc
-    hindered_reads line says sub None free none = let whole : IsWhole line = line_whole bytes line says in
+    hindered_reads line says sub None free none = let whole : IsWhole isa line = line_whole isa bytes line says in
         let r = line_reads above number drafts line bytes old fine whole (free refl) home.numbered says
-        (λ h there. sub h (all_have (line ∷ above) rest h there)) in
-        let more = behind line r.0 (line_home above number drafts line whole (free refl) home) r.2 sub none in
+        (λ h there. sub h (all_have isa (line ∷ above) rest h there)) in
+        let more = behind line r.0 (line_home isa above number drafts line whole (free refl) home) r.2 sub none in
         record {
           reading = more.reading;
           leads = (r.0, r.1, more.leads);
@@ -278,8 +277,8 @@ module _ (lines : List Line) (end : ℕ) (blocks : List Draft) (packets : List P
           fine = more.fine;
         }
 
-    said_reads : (said : Result Line LineFault) → line_says bytes ≡ said
-        → ((h : Home) → In h (homes_in (all_lines (with_said said above) rest)) → In h (homes_in lines))
+    said_reads : (said : Result Line LineFault) → line_says isa bytes ≡ said
+        → ((h : Home) → In h (homes_in (all_lines isa (with_said said above) rest)) → In h (homes_in lines))
         → (and_line above drafts number (judged above drafts said) read).fault ≡ None → IsRead number old (bytes ∷ rest)
     said_reads (Err fault) is sub none = absurd cc
     said_reads (Ok line) is sub none = hindered_reads line is sub (hindrance above drafts line)
@@ -287,14 +286,14 @@ module _ (lines : List Line) (end : ℕ) (blocks : List Draft) (packets : List P
 
   pub lines_read : (above : List Line) (number : ℕ) (drafts : Drafts) (rest : List (List ℕ)) (old : Reading)
       → AreHome above number drafts → IsFine given above drafts old
-      → ((h : Home) → In h (homes_in (all_lines above rest)) → In h (homes_in lines))
-      → (read_below above drafts number rest).fault ≡ None → IsRead number old rest
+      → ((h : Home) → In h (homes_in (all_lines isa above rest)) → In h (homes_in lines))
+      → (read_below isa above drafts number rest).fault ≡ None → IsRead number old rest
   unfolding read_below
   lines_read above number drafts [] old home fine sub none = record
       { reading = old; leads = refl; above = above; drafts = drafts; fine = fine }
   lines_read above number drafts (bytes ∷ rest) old home fine sub none =
       said_reads above number drafts bytes rest old home fine
-      (λ line. read_below (line ∷ above) (with_line number (stand_of above line) line drafts) (number + 1) rest)
+      (λ line. read_below isa (line ∷ above) (with_line number (stand_of above line) line drafts) (number + 1) rest)
       (λ line next more fine_next sub_next none_next. lines_read (line ∷ above) (number + 1)
       (with_line number (stand_of above line) line drafts) rest next more fine_next sub_next none_next)
-      (line_says bytes) refl sub none
+      (line_says isa bytes) refl sub none

@@ -5,7 +5,7 @@ use Rattle.std.proofs.lemmas.Bool.{cases_Bool, cond_both}
 use Rattle.std.proofs.lemmas.Bool.Decides.{nat_tests}
 use Rattle.std.specs.List.{list_all}
 use Rattle.c62_op.specs.declared.register.Cond.{Cond as Condition}
-use Rattle.c62_token.specs.Kind.{Word, kinds_of}
+use Rattle.c62_token.specs.Kind.{Word, kinds_in}
 use Rattle.c62_token.specs.Token.{begins, is_allowed, tokens}
 use Rattle.c62_token.specs.declared.kind.Kind.{Kind}
 use Rattle.c62_token.specs.declared.kind.Kind.TheVariants.{Number}
@@ -22,6 +22,7 @@ use Rattle.c62_adopt_line.specs.Plain.{plain_words, undotted}
 use Rattle.c62_adopt_line.specs.Line.{Line, behind_bars, behind_colon, has_colon, instruction_says, line_said}
 use Rattle.c62_adopt_line.specs.Line.{line_says}
 use Rattle.c62_adopt_line.specs.Line.{statement_says, with_bars, with_front, with_label, with_unit, words_say}
+use Rattle.c62_op.specs.declared.set.InstructionSet.{InstructionSet}
 
 abbrev pub lasts : Says → Bool
 lasts (Pause n) = leb 1 n
@@ -43,22 +44,24 @@ pause_lasts None (kind ∷ []) = cycles_last kind
 pause_lasts None (kind ∷ next ∷ kinds) = tt
 pause_lasts (Some condition) kinds = tt
 
-does_last : (aim : Option Word) (mnemonic : _) (condition : Option Condition) (written : _) (words : List Word)
-    → OkLasts (jumps_or_does aim mnemonic condition written words)
-does_last (Some label) mnemonic condition written words = grind arith
-does_last None mnemonic condition written words = grind arith
+does_last : (isa : InstructionSet) (aim : Option Word) (mnemonic : _) (condition : Option Condition) (written : _)
+    (words : List Word)
+    → OkLasts (jumps_or_does isa aim mnemonic condition written words)
+does_last isa (Some label) mnemonic condition written words = grind arith
+does_last isa None mnemonic condition written words = grind arith
 
-unit_lasts : (mnemonic : _) (condition : Option Condition) (written : _) (words : List Word)
-    → OkLasts (behind_unit mnemonic condition written words)
+unit_lasts : (isa : InstructionSet) (mnemonic : _) (condition : Option Condition) (written : _) (words : List Word)
+    → OkLasts (behind_unit isa mnemonic condition written words)
 unfolding behind_unit
-unit_lasts mnemonic condition written words =
-    let does = does_last (target_of mnemonic words) mnemonic condition written words in
-    let paused = pause_lasts condition (kinds_of words) in
+unit_lasts isa mnemonic condition written words =
+    let does = does_last isa (target_of mnemonic words) mnemonic condition written words in
+    let paused = pause_lasts condition (kinds_in isa words) in
     grind arith
 
-rest_lasts : (words : List Word) (says : Says) → rest_says words ≡ Ok says → lasts says ≡ true
+rest_lasts : (isa : InstructionSet) (words : List Word) (says : Says) → rest_says isa words ≡ Ok says
+    → lasts says ≡ true
 unfolding rest_says instruction_of
-rest_lasts words says is = grind (arith, unit_lasts)
+rest_lasts isa words says is = grind (arith, unit_lasts isa)
 
 -- ---- a line
 
@@ -70,31 +73,34 @@ unit_kept : (read : Result Says Cause) (says : Says) → ((other : Says) → rea
 unit_kept (Err cause) says target is = absurd cc
 unit_kept (Ok read) says target is = let aims = target read refl in grind (arith, nat_tests)
 
-instruction_lasts : (bytes : List ℕ) (says : Says) → instruction_says bytes ≡ Ok says → lasts says ≡ true
+instruction_lasts : (isa : InstructionSet) (bytes : List ℕ) (says : Says) → instruction_says isa bytes ≡ Ok says
+    → lasts says ≡ true
 unfolding instruction_says
-instruction_lasts bytes says is =
+instruction_lasts isa bytes says is =
     let words = plain_words [] (tokens (undotted false bytes)) in
     elim (cases_Bool (has_colon bytes)) [
       | inl colon ↦ absurd (no_fault (Read BadLabel) says (rw colon at is))
-      | inr none ↦ unit_kept (rest_says words) says (rest_lasts words) (rw none at is)
+      | inr none ↦ unit_kept (rest_says isa words) says (rest_lasts isa words) (rw none at is)
     ]
 
 directive_lasts : (beside lays : Bool) (says : Says)
     → cond (not beside && lays) (Ok Nothing) (Err (Read Directive)) ≡ Ok says → lasts says ≡ true
 directive_lasts beside lays says is = grind (arith, nat_tests)
 
-words_last : (beside : Bool) (bytes : List ℕ) (words : List Word) (says : Says) → words_say beside bytes words ≡ Ok says
+words_last : (isa : InstructionSet) (beside : Bool) (bytes : List ℕ) (words : List Word) (says : Says)
+    → words_say isa beside bytes words ≡ Ok says
     → lasts says ≡ true
-words_last beside bytes [] says is = grind (arith, nat_tests)
-words_last beside bytes (word ∷ words) says is = elim (cases_Bool (begins is_dot word)) [
+words_last isa beside bytes [] says is = grind (arith, nat_tests)
+words_last isa beside bytes (word ∷ words) says is = elim (cases_Bool (begins is_dot word)) [
   | inl dot ↦ directive_lasts beside (lays_nothing (word ∷ words)) says (rw dot at is)
-  | inr plain ↦ instruction_lasts bytes says (rw plain at is)
+  | inr plain ↦ instruction_lasts isa bytes says (rw plain at is)
 ]
 
-statement_lasts : (beside : Bool) (bytes : List ℕ) (says : Says) → statement_says beside bytes ≡ Ok says
+statement_lasts : (isa : InstructionSet) (beside : Bool) (bytes : List ℕ) (says : Says)
+    → statement_says isa beside bytes ≡ Ok says
     → lasts says ≡ true
 unfolding statement_says
-statement_lasts beside bytes says is = words_last beside bytes (tokens bytes) says is
+statement_lasts isa beside bytes says is = words_last isa beside bytes (tokens bytes) says is
 
 front_lasts : (beside : Bool) (label : Option Word) (read : Result Says LineFault) (line : Line)
     → ((says : Says) → read ≡ Ok says → lasts says ≡ true)
@@ -104,18 +110,23 @@ front_lasts beside label (Ok says) line whole is =
     let same : line_said beside label says ≡ line = grind arith in
     subst (λ (other : Line). lasts other.says ≡ true) same (whole says refl)
 
-label_lasts : (bytes : List ℕ) (label : Option Word) (line : Line) → with_label bytes label ≡ Ok line
+label_lasts : (isa : InstructionSet) (bytes : List ℕ) (label : Option Word) (line : Line)
+    → with_label isa bytes label ≡ Ok line
     → lasts line.says ≡ true
-label_lasts bytes (Some label) line is = front_lasts false (Some label) (statement_says false (behind_colon bytes)) line
-    (statement_lasts false (behind_colon bytes)) is
-label_lasts bytes None line is = front_lasts false None (statement_says false bytes) line (statement_lasts false bytes)
+label_lasts isa bytes (Some label) line is =
+    front_lasts false (Some label) (statement_says isa false (behind_colon bytes)) line
+    (statement_lasts isa false (behind_colon bytes)) is
+label_lasts isa bytes None line is =
+    front_lasts false None (statement_says isa false bytes) line (statement_lasts isa false bytes)
     is
 
-bars_last : (bytes : List ℕ) (behind : Option (List ℕ)) (line : Line) → with_bars bytes behind ≡ Ok line
+bars_last : (isa : InstructionSet) (bytes : List ℕ) (behind : Option (List ℕ)) (line : Line)
+    → with_bars isa bytes behind ≡ Ok line
     → lasts line.says ≡ true
-bars_last bytes (Some rest) line is = front_lasts true None (statement_says true rest) line (statement_lasts true rest)
+bars_last isa bytes (Some rest) line is =
+    front_lasts true None (statement_says isa true rest) line (statement_lasts isa true rest)
     is
-bars_last bytes None line is = label_lasts bytes (label_field (undotted true bytes)) line is
+bars_last isa bytes None line is = label_lasts isa bytes (label_field (undotted true bytes)) line is
 
 steps_last : (allowed long star : Bool) (rest : Result Line LineFault) (line : Line)
     → ((other : Line) → rest ≡ Ok other → lasts other.says ≡ true)
@@ -129,9 +140,10 @@ steps_last true false true rest line whole is =
     subst (λ (other : Line). lasts other.says ≡ true) same refl
 steps_last true false false rest line whole is = whole line is
 
-pub line_lasts : (bytes : List ℕ) (line : Line) → line_says bytes ≡ Ok line → lasts line.says ≡ true
+pub line_lasts : (isa : InstructionSet) (bytes : List ℕ) (line : Line) → line_says isa bytes ≡ Ok line
+    → lasts line.says ≡ true
 unfolding line_says
-line_lasts bytes line is =
+line_lasts isa bytes line is =
     steps_last (list_all is_allowed bytes) (ltb MOST_LINE (length bytes)) (begins is_star bytes)
-    (with_bars bytes (behind_bars bytes)) line
-    (bars_last bytes (behind_bars bytes)) is
+    (with_bars isa bytes (behind_bars bytes)) line
+    (bars_last isa bytes (behind_bars bytes)) is

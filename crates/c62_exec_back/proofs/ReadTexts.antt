@@ -44,14 +44,16 @@ use Rattle.c62_exec_back.proofs.ReadRows.{AreEarly, IsCutBy, begun_stays, labell
 use Rattle.c62_exec_back.proofs.ReadyRows.{cut_stays}
 use Rattle.c62_exec_back.proofs.Spaced.{spaced_flies}
 use Rattle.c62_exec_back.proofs.Together.{AreBoth, text_both}
+use Rattle.c62_op.specs.declared.set.InstructionSet.{InstructionSet}
 
 -- ---- what is read is sound
 
-leads_sound : (number : ℕ) (old : Reading) (lines : List (List ℕ)) (new : Reading) → IsSoundReading old
-    → LeadsTo number old lines new → IsSoundReading new
-leads_sound number old [] new is same = subst IsSoundReading (sym same) is
-leads_sound number old (bytes ∷ lines) new is leads = leads_sound (number + 1) leads.0 lines new
-    (line_sound number bytes old leads.0 is leads.1) leads.2
+leads_sound : (isa : InstructionSet) (number : ℕ) (old : Reading) (lines : List (List ℕ)) (new : Reading)
+    → IsSoundReading old
+    → LeadsTo isa number old lines new → IsSoundReading new
+leads_sound isa number old [] new is same = subst IsSoundReading (sym same) is
+leads_sound isa number old (bytes ∷ lines) new is leads = leads_sound isa (number + 1) leads.0 lines new
+    (line_sound isa number bytes old leads.0 is leads.1) leads.2
 
 -- ---- labels are of rows
 
@@ -111,20 +113,21 @@ still_outside text other (Ended FellThrough) same out = tt
 still_outside text other (Ended Stopped) same out = tt
 still_outside text other (Ended (LeftBy word)) same out = rw same out
 
-module _ (text : List ℕ) (packets : List Packed) (adopted : IsAdopted false text packets 0) (reading : Reading)
-    (reads : IsReading (code_in (code_read text)) reading)
+module _ (isa : InstructionSet) (text : List ℕ) (packets : List Packed) (adopted : IsAdopted isa false text packets 0)
+    (reading : Reading)
+    (reads : IsReading isa (code_in (code_read isa text)) reading)
     (found : lost_among reading.targets reading.labels ≡ None) where
   abbrev cut : Cut
-  cut = code_cut text
+  cut = code_cut isa text
 
   both : AreBoth cut reading
-  both = text_both (code_in (code_read text)) reading reads adopted.read.cut.whole
+  both = text_both isa (code_in (code_read isa text)) reading reads adopted.read.cut.whole
 
   are : AreAdopted both.lines cut.cycles cut.drafts packets
   are = record {
     over = blocks_are_over false cut adopted.read.cut.over;
     blocks = adopted.read.cut.blocks;
-    aimed = blocks_are_aimed (code_in (code_read text));
+    aimed = blocks_are_aimed isa (code_in (code_read isa text));
     of_lines = both.blocks;
     rising = are_rising cut.cycles cut.drafts both.blocks.rising
         (subst (λ n. AllByRecursion (λ start. start ≤ n) (starts_of cut.drafts)) (sym both.cycles) both.blocks.early);
@@ -137,7 +140,7 @@ module _ (text : List ℕ) (packets : List Packed) (adopted : IsAdopted false te
   whole = both.rows.cycles ∙ sym both.cycles
 
   sound : IsSoundReading reading
-  sound = leads_sound 1 no_reading (lines_of (code_in (code_read text))) reading none_sound reads.leads
+  sound = leads_sound isa 1 no_reading (lines_of (code_in (code_read isa text))) reading none_sound reads.leads
 
   read : AreRowsOf both.lines cut.cycles cut.drafts reading
   read = record {

@@ -23,6 +23,7 @@ use Rattle.c62_exec_back.proofs.Pauses.{line_lasts}
 use Rattle.c62_exec_back.proofs.ReadRows.{AreRows}
 use Rattle.c62_exec_back.proofs.RowLines.{line_steps, none_read}
 use Rattle.c62_adopt_cut.specs.declared.text.TheConstants.{MOST_BYTES}
+use Rattle.c62_op.specs.declared.set.InstructionSet.{InstructionSet}
 
 -- what is read of lines by both
 pub record AreBoth (cut : Cut) (reading : Reading) : Type 0 where
@@ -34,10 +35,11 @@ pub record AreBoth (cut : Cut) (reading : Reading) : Type 0 where
   pub rows : AreRows lines drafts reading
 
 -- a line that is one of packets by itself names no label for its word
-says_itself : (bytes : List ℕ) (line : Line) (said : Said) → line_says bytes ≡ Ok line → row_says bytes ≡ Ok said
+says_itself : (isa : InstructionSet) (bytes : List ℕ) (line : Line) (said : Said) → line_says isa bytes ≡ Ok line
+    → row_says isa bytes ≡ Ok said
     → record { line = line; word = None } ≡ said
 unfolding row_says
-says_itself bytes line said says is = grind (arith, (rw says at is))
+says_itself isa bytes line said says is = grind (arith, (rw says at is))
 
 open_row : (said : Said) (reading : Reading) → row_hindrance said reading ≡ None
     → (said.line.beside && is_none reading.current) ≡ false
@@ -47,48 +49,51 @@ open_row said reading free = elim (cases_Bool (said.line.beside && is_none readi
   | inr free_one ↦ free_one
 ]
 
-module _ (above : List Line) (number : ℕ) (drafts : Drafts) (bytes : List ℕ) (lines : List (List ℕ)) (old new : Reading)
+module _ (isa : InstructionSet) (above : List Line) (number : ℕ) (drafts : Drafts) (bytes : List ℕ)
+    (lines : List (List ℕ)) (old new : Reading)
     (home : AreHome above number drafts) (are : AreRows above drafts old)
-    (leads : LeadsTo number old (bytes ∷ lines) new) (read : Line → Cut)
+    (leads : LeadsTo isa number old (bytes ∷ lines) new) (read : Line → Cut)
     (behind : (line : Line) (next : Reading)
     → AreHome (line ∷ above) (number + 1) (with_line number (stand_of above line) line drafts)
     → AreRows (line ∷ above) (with_line number (stand_of above line) line drafts) next
-    → LeadsTo (number + 1) next lines new → (read line).fault ≡ None → AreBoth (read line) new) where
-  goes_on : (line : Line) → line_says bytes ≡ Ok line → IsFree above drafts line → (read line).fault ≡ None
+    → LeadsTo isa (number + 1) next lines new → (read line).fault ≡ None → AreBoth (read line) new) where
+  goes_on : (line : Line) → line_says isa bytes ≡ Ok line → IsFree above drafts line → (read line).fault ≡ None
       → AreBoth (read line) new
   goes_on line says free none =
-      let adds : AddsLine number bytes old leads.0 = leads.1 in
-      let whole : IsWhole line = line_whole bytes line says in
-      let same : record { line = line; word = None } ≡ adds.said = says_itself bytes line adds.said says adds.says in
+      let adds : AddsLine isa number bytes old leads.0 = leads.1 in
+      let whole : IsWhole isa line = line_whole isa bytes line says in
+      let same : record { line = line; word = None } ≡ adds.said =
+      says_itself isa bytes line adds.said says adds.says in
       let row_free : row_hindrance (record { line = line; word = None }) old ≡ None = subst
       (λ (s : Said). row_hindrance s old ≡ None) (sym same) adds.free in
       let row_adds : AddsSays number None line.says (at_line line old) leads.0
       = subst (λ (s : Said). AddsSays number s.word s.line.says (at_line s.line old) leads.0) (sym same) adds.adds in
-      behind line leads.0 (line_home above number drafts line whole free home)
+      behind line leads.0 (line_home isa above number drafts line whole free home)
       (line_steps above number drafts line.beside line.label old leads.0 are
       (open_row (record { line = line; word = None }) old row_free) whole.beside home.numbered line.says
-      (line_lasts bytes line says) row_adds)
+      (line_lasts isa bytes line says) row_adds)
       leads.2 none
 
-  hindered : (line : Line) → line_says bytes ≡ Ok line → (found : Option TextCause)
+  hindered : (line : Line) → line_says isa bytes ≡ Ok line → (found : Option TextCause)
       → (found ≡ None → IsFree above drafts line)
       → (and_line above drafts number (unless_hindered found line) read).fault ≡ None
       → AreBoth (and_line above drafts number (unless_hindered found line) read) new
   hindered line says (Some cause) free none = absurd cc
   hindered line says None free none = goes_on line says (free refl) none
 
-  said_both : (said : Result Line LineFault) → line_says bytes ≡ said
+  said_both : (said : Result Line LineFault) → line_says isa bytes ≡ said
       → (and_line above drafts number (judged above drafts said) read).fault ≡ None
       → AreBoth (and_line above drafts number (judged above drafts said) read) new
   said_both (Err fault) is none = absurd cc
   said_both (Ok line) is none = hindered line is (hindrance above drafts line) (unhindered above drafts line) none
 
-read_both : (above : List Line) (number : ℕ) (drafts : Drafts) (bytes : List (List ℕ)) (old new : Reading)
+read_both : (isa : InstructionSet) (above : List Line) (number : ℕ) (drafts : Drafts) (bytes : List (List ℕ))
+    (old new : Reading)
     → AreHome above number drafts → AreRows above drafts old
-    → LeadsTo number old bytes new → (read_below above drafts number bytes).fault ≡ None
-    → AreBoth (read_below above drafts number bytes) new
+    → LeadsTo isa number old bytes new → (read_below isa above drafts number bytes).fault ≡ None
+    → AreBoth (read_below isa above drafts number bytes) new
 unfolding read_below
-read_both above number drafts [] old new home are same none = record {
+read_both isa above number drafts [] old new home are same none = record {
   lines = above;
   drafts = drafts;
   all = refl;
@@ -96,24 +101,25 @@ read_both above number drafts [] old new home are same none = record {
   blocks = are_of_lines above number drafts home;
   rows = subst (AreRows above drafts) (sym same) are;
 }
-read_both above number drafts (bytes ∷ lines) old new home are leads none =
-    said_both above number drafts bytes lines old new home are leads
-    (λ line. read_below (line ∷ above) (with_line number (stand_of above line) line drafts) (number + 1) lines)
-    (λ line next more rows rest fine. read_both (line ∷ above) (number + 1)
+read_both isa above number drafts (bytes ∷ lines) old new home are leads none =
+    said_both isa above number drafts bytes lines old new home are leads
+    (λ line. read_below isa (line ∷ above) (with_line number (stand_of above line) line drafts) (number + 1) lines)
+    (λ line next more rows rest fine. read_both isa (line ∷ above) (number + 1)
     (with_line number (stand_of above line) line drafts) lines next new more rows rest fine)
-    (line_says bytes) refl none
+    (line_says isa bytes) refl none
 
-short_text : (text : List ℕ) → ltb MOST_BYTES (length text) ≡ false
-    → text_cut text ≡ read_below [] no_drafts 1 (lines_of text)
+short_text : (isa : InstructionSet) (text : List ℕ) → ltb MOST_BYTES (length text) ≡ false
+    → text_cut isa text ≡ read_below isa [] no_drafts 1 (lines_of text)
 unfolding text_cut
-short_text text short = rw short refl
+short_text isa text short = rw short refl
 
-pub text_both : (text : List ℕ) (reading : Reading) → IsReading text reading → (text_cut text).fault ≡ None
-    → AreBoth (text_cut text) reading
-text_both text reading is none =
+pub text_both : (isa : InstructionSet) (text : List ℕ) (reading : Reading) → IsReading isa text reading
+    → (text_cut isa text).fault ≡ None
+    → AreBoth (text_cut isa text) reading
+text_both isa text reading is none =
     let few : length text ≤ MOST_BYTES = is.short in
     let short : ltb MOST_BYTES (length text) ≡ false = grind (arith, nat_tests, few) in
-    let same : text_cut text ≡ read_below [] no_drafts 1 (lines_of text) = short_text text short in
+    let same : text_cut isa text ≡ read_below isa [] no_drafts 1 (lines_of text) = short_text isa text short in
     subst (λ (cut : Cut). AreBoth cut reading) (sym same)
-    (read_both [] 1 no_drafts (lines_of text) no_reading reading none_home none_read is.leads
+    (read_both isa [] 1 no_drafts (lines_of text) no_reading reading none_home none_read is.leads
     (ap (λ (cut : Cut). cut.fault) (sym same) ∙ none))

@@ -12,6 +12,7 @@ use Rattle.c62_flight.specs.Laid.{packet_blocks, cycles_taken, FliesAs, IsOutsid
 use Rattle.c62_adopt.specs.Answer.{IsAdopted, code_in, code_read}
 use Rattle.c62_adopt_back.specs.Laws.{AreParted}
 use Rattle.c62_rows.specs.Text.{IsText}
+use Rattle.c62_op.specs.declared.set.InstructionSet.{InstructionSet}
 
 -- From every sound machine the text flies as the chain of these packets runs: it leaves the same registers, memory and faulted lines, and
 -- takes as many cycles or more. A chain that leaves by a branch to a register does so where that holds no row's address.
@@ -21,26 +22,26 @@ FliesAsRun flying packets = (opening : Machine) (limit : ℕ) (standing : Standi
     → FliesAs flying 0 opening standing.position standing.machine (cycles_taken packets standing.numbers)
 
 -- the text is one for `exec`, too
-pub record ReadsInFlight (text : List ℕ) : Type 0 where
+pub record ReadsInFlight (isa : InstructionSet) (text : List ℕ) : Type 0 where
   pub flying : Text
   pub labels : List (Name × ℕ)
-  pub is_text : IsText (code_in (code_read text)) flying labels
+  pub is_text : IsText isa (code_in (code_read isa text)) flying labels
 
 -- it is, and flies as these packets run
-pub record IsReadAndFlies (text : List ℕ) (packets : List Packed) : Type 0 where
-  pub reads : ReadsInFlight text
-  pub flies : (flying : Text) (labels : List (Name × ℕ)) → IsText (code_in (code_read text)) flying labels → FliesAsRun flying packets
+pub record IsReadAndFlies (isa : InstructionSet) (text : List ℕ) (packets : List Packed) : Type 0 where
+  pub reads : ReadsInFlight isa text
+  pub flies : (flying : Text) (labels : List (Name × ℕ)) → IsText isa (code_in (code_read isa text)) flying labels → FliesAsRun flying packets
 
 -- so it is of what `adopt` takes as it stands
-abbrev pub AdoptedFlies : List ℕ → Type 0
-AdoptedFlies text = (packets : List Packed) → IsAdopted false text packets 0 → IsReadAndFlies text packets
+abbrev pub AdoptedFlies : InstructionSet → List ℕ → Type 0
+AdoptedFlies isa text = (packets : List Packed) → IsAdopted isa false text packets 0 → IsReadAndFlies isa text packets
 
 -- a listing is one for `exec`, and flies as what it lists runs
-pub record IsListedAndFlies (packets : List Packed) : Type 0 where
+pub record IsListedAndFlies (isa : InstructionSet) (packets : List Packed) : Type 0 where
   pub others : List Packed
   pub alike : AreAlike packets others
-  pub flies : IsReadAndFlies (listing packets) others
+  pub flies : IsReadAndFlies isa (listing packets) others
 
 -- where each block without a label is the first, or stands behind one with a branch
-abbrev pub ListingsFly : List Packed → Type 0
-ListingsFly packets = AreShown packets → AreParted packets → IsListedAndFlies packets
+abbrev pub ListingsFly : InstructionSet → List Packed → Type 0
+ListingsFly isa packets = AreShown isa packets → AreParted packets → IsListedAndFlies isa packets

@@ -1,5 +1,6 @@
 //! Laws of texts of packets in flight.
 
+ghost use Rattle.c62_op.specs.declared.set.InstructionSet.{InstructionSet};
 ghost use Rattle.std.specs.Prelude.{ℕ, List};
 ghost use Rattle.c62_packet.specs.Packed.{Packed};
 ghost use Rattle.c62_flight.specs.Text.{Text};
@@ -16,10 +17,10 @@ pub fn spaced_blocks_fly()
 /// machine it leaves the registers, memory and faulted lines that their chain leaves, in as many cycles
 /// or more.
 pub fn adopted_text_flies()
-    ensures { (text : List ℕ) → AdoptedFlies text }
+    ensures { (isa : InstructionSet) (text : List ℕ) → AdoptedFlies isa text }
 {}
 
 /// A listing is read in flight, and flies as what it lists runs.
 pub fn listings_fly()
-    ensures { (packets : List Packed) → ListingsFly packets }
+    ensures { (isa : InstructionSet) (packets : List Packed) → ListingsFly isa packets }
 {}

@@ -12,21 +12,22 @@ use Rattle.c62_lint.specs.Faults.{faults_in, refusal_of}
 use Rattle.c62_explain.specs.declared.placed.PlacedFault.{PlacedFault}
 use Rattle.c62_explain.specs.Picture.{few, Lints, LintsOne, LintsText}
 use Rattle.c62_explain.specs.Placed.{ArePlaced, IsPlaced, LintsPlaced, placed_line}
+use Rattle.c62_op.specs.declared.set.InstructionSet.{InstructionSet}
 
-tells_one : (name text : List ℕ) (placed : PlacedFault) → IsPlaced text placed
-    → LintsOne name text placed.fault (placed_line name placed)
+tells_one : (isa : InstructionSet) (name text : List ℕ) (placed : PlacedFault) → IsPlaced isa text placed
+    → LintsOne isa name text placed.fault (placed_line name placed)
 unfolding placed_line
-tells_one name text placed is = record { place = is.place; there = is.there; says = rw is.column refl }
+tells_one isa name text placed is = record { place = is.place; there = is.there; says = rw is.column refl }
 
-tells_all : (name text : List ℕ) (all : List PlacedFault) → All (IsPlaced text) all
-    → Lints name text (map (λ placed. placed.fault) all) (flat_map (placed_line name) all)
-tells_all name text [] there = refl
-tells_all name text (placed ∷ others) there = (
+tells_all : (isa : InstructionSet) (name text : List ℕ) (all : List PlacedFault) → All (IsPlaced isa text) all
+    → Lints isa name text (map (λ placed. placed.fault) all) (flat_map (placed_line name) all)
+tells_all isa name text [] there = refl
+tells_all isa name text (placed ∷ others) there = (
   placed_line name placed,
   flat_map (placed_line name) others,
   refl,
-  tells_one name text placed (there 0 placed (omega arith)),
-  tells_all name text others (λ k d within. there (suc k) d (omega (arith, within))),
+  tells_one isa name text placed (there 0 placed (omega arith)),
+  tells_all isa name text others (λ k d within. there (suc k) d (omega (arith, within))),
 )
 
 refusals_of : (all : List PlacedFault) → map refusal_of (map (λ placed. placed.fault) all)
@@ -34,20 +35,21 @@ refusals_of : (all : List PlacedFault) → map refusal_of (map (λ placed. place
 refusals_of [] = refl
 refusals_of (placed ∷ others) = ap (λ rest. refusal_of placed.fault ∷ rest) (refusals_of others)
 
-pub are_placed : (text : List ℕ) (most : ℕ) (faults : List ReadFault) (all : List PlacedFault)
-    → map refusal_of faults ≡ take (few most) (faults_in text)
-    → map (λ placed. placed.fault) all ≡ faults → All (IsPlaced text) all → ArePlaced text most all
-are_placed text most faults all is same there = record {
+pub are_placed : (isa : InstructionSet) (text : List ℕ) (most : ℕ) (faults : List ReadFault) (all : List PlacedFault)
+    → map refusal_of faults ≡ take (few most) (faults_in isa text)
+    → map (λ placed. placed.fault) all ≡ faults → All (IsPlaced isa text) all → ArePlaced isa text most all
+are_placed isa text most faults all is same there = record {
   faults = sym (refusals_of all) ∙ (ap (map refusal_of) same ∙ is);
   there = there;
 }
 
-pub lints_text : (name text : List ℕ) (most : ℕ) (out : List ℕ) → LintsPlaced name text most out
-    → LintsText name text most out
-lints_text name text most out lints = record {
+pub lints_text : (isa : InstructionSet) (name text : List ℕ) (most : ℕ) (out : List ℕ)
+    → LintsPlaced isa name text most out
+    → LintsText isa name text most out
+lints_text isa name text most out lints = record {
   faults = map (λ placed. placed.fault) lints.placed;
   all = refusals_of lints.placed ∙ lints.are.faults;
-  says = rw lints.says (tells_all name text lints.placed lints.are.there);
+  says = rw lints.says (tells_all isa name text lints.placed lints.are.there);
 }
 
 -- one more of the faults, with its column
@@ -67,13 +69,14 @@ next_same faults index all placed fault within at whole =
     ∙ (append_assoc told (placed.fault ∷ []) (drop (index + 1) faults)
     ∙ (ap (λ (rest : List ReadFault). told ++ rest) (sym more) ∙ whole))
 
-pub placed_next : (text : List ℕ) (faults : List ReadFault) (index : ℕ) (all new : List PlacedFault)
+pub placed_next : (isa : InstructionSet) (text : List ℕ) (faults : List ReadFault) (index : ℕ)
+    (all new : List PlacedFault)
     (placed : PlacedFault) (fault : ReadFault) → index < length faults
-    → placed.fault ≡ get_or faults index fault → IsPlaced text placed
-    → (map (λ each. each.fault) all ++ drop index faults ≡ faults) × All (IsPlaced text) all
+    → placed.fault ≡ get_or faults index fault → IsPlaced isa text placed
+    → (map (λ each. each.fault) all ++ drop index faults ≡ faults) × All (IsPlaced isa text) all
     → new ≡ all ++ placed ∷ []
-    → (map (λ each. each.fault) new ++ drop (index + 1) faults ≡ faults) × All (IsPlaced text) new
-placed_next text faults index all new placed fault within at is before pushed = rw pushed (
+    → (map (λ each. each.fault) new ++ drop (index + 1) faults ≡ faults) × All (IsPlaced isa text) new
+placed_next isa text faults index all new placed fault within at is before pushed = rw pushed (
   next_same faults index all placed fault within at before.0,
-  All-push (IsPlaced text) all placed before.1 is,
+  All-push (IsPlaced isa text) all placed before.1 is,
 )

@@ -11,6 +11,7 @@ use Rattle.c62_lint.specs.Faults.{faults_in, refusal_of}
 use Rattle.c62_explain.specs.declared.lines.TheConstants.{MOST_FAULTS}
 use Rattle.c62_explain.specs.declared.picture.TheConstants.{MOST_SHOWN}
 use Rattle.c62_explain.specs.Sentence.{sentence}
+use Rattle.c62_op.specs.declared.set.InstructionSet.{InstructionSet}
 
 -- the line of this number in a text, from 1; nothing where it has none
 abbrev pub line_at : List ℕ → ℕ → List ℕ
@@ -83,39 +84,39 @@ AddsHelp number old new = Adds (IsHelp number) old new
 -- ---- what is answered
 
 -- the place is that of this fault of the text
-abbrev pub IsPlaceIn : List ℕ → ReadFault → Place → Type 0
-IsPlaceIn text fault place = IsPlace fault.cause (line_at text fault.line) place
+abbrev pub IsPlaceIn : InstructionSet → List ℕ → ReadFault → Place → Type 0
+IsPlaceIn isa text fault place = IsPlace isa fault.cause (line_at text fault.line) place
 
 -- the picture of the fault, and behind it lines of help
-pub record IsPictured (name text : List ℕ) (fault : ReadFault) (out : List ℕ) : Type 0 where
+pub record IsPictured (isa : InstructionSet) (name text : List ℕ) (fault : ReadFault) (out : List ℕ) : Type 0 where
   pub place : Place
-  pub there : IsPlaceIn text fault place
+  pub there : IsPlaceIn isa text fault place
   pub help : List ℕ
   pub helps : IsHelp fault.line help
   pub says : out ≡ picture name (line_at text fault.line) fault.line place (sentence fault.cause) ++ help
 
 -- a fault of no line has no picture
-abbrev pub Explains : List ℕ → List ℕ → ReadFault → List ℕ → Type 0
-Explains name text fault out = ((fault.line ≡ 0) × (out ≡ [])) ⊎ IsPictured name text fault out
+abbrev pub Explains : InstructionSet → List ℕ → List ℕ → ReadFault → List ℕ → Type 0
+Explains isa name text fault out = ((fault.line ≡ 0) × (out ≡ [])) ⊎ IsPictured isa name text fault out
 
 -- a line for a fault of the text
-pub record LintsOne (name text : List ℕ) (fault : ReadFault) (out : List ℕ) : Type 0 where
+pub record LintsOne (isa : InstructionSet) (name text : List ℕ) (fault : ReadFault) (out : List ℕ) : Type 0 where
   pub place : Place
-  pub there : IsPlaceIn text fault place
+  pub there : IsPlaceIn isa text fault place
   pub says : out ≡ lint_line name fault place
 
 -- a line for each fault of the text, in their order
-abbrev pub Lints : List ℕ → List ℕ → List ReadFault → List ℕ → Type 0
-Lints name text [] out = out ≡ []
-Lints name text (fault ∷ faults) out =
-    (first : List ℕ) × (others : List ℕ) × (out ≡ first ++ others) × LintsOne name text fault first × Lints name text faults others
+abbrev pub Lints : InstructionSet → List ℕ → List ℕ → List ReadFault → List ℕ → Type 0
+Lints isa name text [] out = out ≡ []
+Lints isa name text (fault ∷ faults) out =
+    (first : List ℕ) × (others : List ℕ) × (out ≡ first ++ others) × LintsOne isa name text fault first × Lints isa name text faults others
 
 -- at most 1000 faults are told
 abbrev pub few : ℕ → ℕ
 few most = min most MOST_FAULTS
 
 -- a line for each of the text's first faults
-pub record LintsText (name text : List ℕ) (most : ℕ) (out : List ℕ) : Type 0 where
+pub record LintsText (isa : InstructionSet) (name text : List ℕ) (most : ℕ) (out : List ℕ) : Type 0 where
   pub faults : List ReadFault
-  pub all : map refusal_of faults ≡ take (few most) (faults_in text)
-  pub says : Lints name text faults out
+  pub all : map refusal_of faults ≡ take (few most) (faults_in isa text)
+  pub says : Lints isa name text faults out

@@ -13,6 +13,7 @@ use c62_line::{
     Cause, Mnemonic, ReadFault, first_condition, first_label, first_mnemonic, label_field,
     unit_behind,
 };
+use c62_op::InstructionSet;
 use c62_place::{Place, Sort, operands_end};
 use c62_read::first_line;
 use c62_token::number::{is_label, spells};
@@ -74,21 +75,25 @@ impl<'a> Faulty<'a> {
     }
 
     /// The mnemonic of the line, and the tokens behind it.
-    fn mnemonic(self) -> Option<(Mnemonic, Tokens<'a>)> {
+    fn mnemonic(self, isa: InstructionSet) -> Option<(Mnemonic, Tokens<'a>)> {
         let (_label, rest) = first_label(Tokens::new(self.line));
         let (_cond, rest) = first_condition(rest)?;
-        first_mnemonic(rest)
+        first_mnemonic(isa, rest)
     }
 }
 
 /// Whether the first token is a mnemonic.
-fn begins_with_mnemonic(rest: Tokens<'_>) -> bool {
-    first_mnemonic(rest).is_some()
+fn begins_with_mnemonic(isa: InstructionSet, rest: Tokens<'_>) -> bool {
+    first_mnemonic(isa, rest).is_some()
 }
 
 /// Help for a word that is no mnemonic.
 #[tactic(auto, using(crate::proofs::HintLemmas::adds_none, crate::proofs::HintLemmas::adds_behind_on))]
-fn push_mnemonic_help(out: &mut Vec<u8>, at: Faulty<'_>) -> Result<(), AllocError>
+fn push_mnemonic_help(
+    isa: InstructionSet,
+    out: &mut Vec<u8>,
+    at: Faulty<'_>,
+) -> Result<(), AllocError>
     ensures { OnOk result (AddsHelp at.entry.fault.line out.old.items out.new.items) }
 {
     let word = at.word();
@@ -113,10 +118,10 @@ fn push_mnemonic_help(out: &mut Vec<u8>, at: Faulty<'_>) -> Result<(), AllocErro
             &[b"a comment begins with `;`, or with `*` as the first byte of its line"],
         );
     }
-    if let Some(name) = nearest_mnemonic(word) {
+    if let Some(name) = nearest_mnemonic(isa, word) {
         return at.push(out, &[b"the nearest mnemonic is ", name.as_bytes()]);
     }
-    if begins_with_mnemonic(at.behind()) {
+    if begins_with_mnemonic(isa, at.behind()) {
         return at.push(out, &[b"a label ends in a colon: ", word, b":"]);
     }
     Ok(())
@@ -194,34 +199,38 @@ struct Operands {
 
 impl Operands {
     /// The operands of a line whose label, condition, mnemonic and unit are right.
-    fn of(alloc: Global, at: Faulty<'_>) -> Result<Option<Operands>, AllocError> {
-        let Some((mnemonic, rest)) = at.mnemonic() else {
+    fn of(
+        isa: InstructionSet,
+        alloc: Global,
+        at: Faulty<'_>,
+    ) -> Result<Option<Operands>, AllocError> {
+        let Some((mnemonic, rest)) = at.mnemonic(isa) else {
             return Ok(None);
         };
         let Some((_unit, rest)) = unit_behind(mnemonic, rest) else {
             return Ok(None);
         };
-        let mut sorts = sorts_of(alloc, rest)?;
-        sorts.truncate(operands_end(mnemonic, &sorts));
+        let mut sorts = sorts_of(isa, alloc, rest)?;
+        sorts.truncate(operands_end(isa, mnemonic, &sorts));
         sorts.push(Sort::Other)?;
         Ok(Some(Operands { mnemonic, sorts }))
     }
 
     /// Whether some form goes on with a token of this sort.
-    fn wants(&mut self, sort: Sort) -> bool {
+    fn wants(&mut self, isa: InstructionSet, sort: Sort) -> bool {
         if let Some(last) = self.sorts.last_mut() {
             *last = sort;
         }
-        operands_end(self.mnemonic, &self.sorts) == self.sorts.len()
+        operands_end(isa, self.mnemonic, &self.sorts) == self.sorts.len()
     }
 }
 
 /// What sorts of tokens are left.
-fn sorts_of(alloc: Global, rest: Tokens<'_>) -> Result<Vec<Sort>, AllocError> {
+fn sorts_of(isa: InstructionSet, alloc: Global, rest: Tokens<'_>) -> Result<Vec<Sort>, AllocError> {
     let mut sorts = Vec::new(alloc);
     let mut left = rest;
     while let Some((word, behind)) = left.split() {
-        sorts.push(Sort::of(word))?;
+        sorts.push(Sort::of(isa, word))?;
         left = behind;
     }
     Ok(sorts)
@@ -254,22 +263,22 @@ fn number_help(word: &[u8]) -> Option<&'static [u8]> {
 }
 
 /// What is told of a word with which no operands go on, where something is known of it.
-fn word_help(mut operands: Operands, word: &[u8]) -> Option<&'static [u8]> {
+fn word_help(isa: InstructionSet, mut operands: Operands, word: &[u8]) -> Option<&'static [u8]> {
     if word.is_empty() {
         return Some(b"the line ends here, and operands are missing");
     }
     if begins_with(b'(', word) || begins_with(b'[', word) {
         return Some(b"an offset is written with a sign and in brackets, as *+A4[2]");
     }
-    if operands.wants(Sort::Comma) {
+    if operands.wants(isa, Sort::Comma) {
         return Some(b"a comma is wanted here");
     }
-    if operands.wants(Sort::Register) {
+    if operands.wants(isa, Sort::Register) {
         if let Some(help) = register_help(word) {
             return Some(help);
         }
     }
-    if operands.wants(Sort::Number) {
+    if operands.wants(isa, Sort::Number) {
         return number_help(word);
     }
     None
@@ -277,13 +286,18 @@ fn word_help(mut operands: Operands, word: &[u8]) -> Option<&'static [u8]> {
 
 /// What is known of a word with which no operands go on.
 #[tactic(auto, using(crate::proofs::HintLemmas::adds_none, crate::proofs::HintLemmas::adds_behind_on))]
-fn push_word_help(out: &mut Vec<u8>, at: Faulty<'_>, operands: Operands) -> Result<(), AllocError>
+fn push_word_help(
+    isa: InstructionSet,
+    out: &mut Vec<u8>,
+    at: Faulty<'_>,
+    operands: Operands,
+) -> Result<(), AllocError>
     ensures { OnOk result (AddsHelp at.entry.fault.line out.old.items out.new.items) }
 {
     if let Mnemonic::Nop = operands.mnemonic {
         return Ok(());
     }
-    match word_help(operands, at.word()) {
+    match word_help(isa, operands, at.word()) {
         Some(help) => at.push(out, &[help]),
         None => Ok(()),
     }
@@ -292,6 +306,7 @@ fn push_word_help(out: &mut Vec<u8>, at: Faulty<'_>, operands: Operands) -> Resu
 /// The forms that the mnemonic has.
 #[tactic(auto, using(crate::proofs::HintLemmas::adds_none, crate::proofs::HintLemmas::adds_behind_on))]
 fn push_forms_help(
+    isa: InstructionSet,
     out: &mut Vec<u8>,
     at: Faulty<'_>,
     mnemonic: Mnemonic,
@@ -300,30 +315,40 @@ fn push_forms_help(
     ensures { OnOk result (AddsHelp at.entry.fault.line out.old.items out.new.items) }
 {
     let mut forms = Vec::new(alloc);
-    push_forms(&mut forms, mnemonic)?;
+    push_forms(isa, &mut forms, mnemonic)?;
     at.push(out, &[&forms])
 }
 
 #[tactic(auto, using(crate::proofs::HintLemmas::adds_none, crate::proofs::HintLemmas::adds_behind_on))]
-fn push_operand_help(out: &mut Vec<u8>, at: Faulty<'_>, alloc: Global) -> Result<(), AllocError>
+fn push_operand_help(
+    isa: InstructionSet,
+    out: &mut Vec<u8>,
+    at: Faulty<'_>,
+    alloc: Global,
+) -> Result<(), AllocError>
     ensures { OnOk result (AddsHelp at.entry.fault.line out.old.items out.new.items) }
 {
-    let Some(operands) = Operands::of(alloc, at)? else {
+    let Some(operands) = Operands::of(isa, alloc, at)? else {
         return at.push(
             out,
             &[b"a condition is [R] or [!R] with R one of A1, A2, B0, B1 and B2"],
         );
     };
     let mnemonic = operands.mnemonic;
-    push_word_help(out, at, operands)?;
-    push_forms_help(out, at, mnemonic, alloc)
+    push_word_help(isa, out, at, operands)?;
+    push_forms_help(isa, out, at, mnemonic, alloc)
 }
 
 #[tactic(auto, using(crate::proofs::HintLemmas::adds_none, crate::proofs::HintLemmas::adds_behind_on))]
-fn push_unit_help(out: &mut Vec<u8>, at: Faulty<'_>, alloc: Global) -> Result<(), AllocError>
+fn push_unit_help(
+    isa: InstructionSet,
+    out: &mut Vec<u8>,
+    at: Faulty<'_>,
+    alloc: Global,
+) -> Result<(), AllocError>
     ensures { OnOk result (AddsHelp at.entry.fault.line out.old.items out.new.items) }
 {
-    let Some((mnemonic, _)) = at.mnemonic() else {
+    let Some((mnemonic, _)) = at.mnemonic(isa) else {
         return Ok(());
     };
     let mut letters = Vec::new(alloc);
@@ -332,31 +357,42 @@ fn push_unit_help(out: &mut Vec<u8>, at: Faulty<'_>, alloc: Global) -> Result<()
 }
 
 #[tactic(auto, using(crate::proofs::HintLemmas::adds_none, crate::proofs::HintLemmas::adds_behind_on))]
-fn push_range_help(out: &mut Vec<u8>, at: Faulty<'_>, alloc: Global) -> Result<(), AllocError>
+fn push_range_help(
+    isa: InstructionSet,
+    out: &mut Vec<u8>,
+    at: Faulty<'_>,
+    alloc: Global,
+) -> Result<(), AllocError>
     ensures { OnOk result (AddsHelp at.entry.fault.line out.old.items out.new.items) }
 {
-    let Some((mnemonic, rest)) = at.mnemonic() else {
+    let Some((mnemonic, rest)) = at.mnemonic(isa) else {
         return Ok(());
     };
     let mut range = Vec::new(alloc);
-    push_range(&mut range, alloc, mnemonic, rest)?;
+    push_range(isa, &mut range, alloc, mnemonic, rest)?;
     at.push(out, &[&range])
 }
 
 #[tactic(auto, using(crate::proofs::HintLemmas::adds_none, crate::proofs::HintLemmas::adds_behind_on))]
-fn push_side_help(out: &mut Vec<u8>, at: Faulty<'_>, alloc: Global) -> Result<(), AllocError>
+fn push_side_help(
+    isa: InstructionSet,
+    out: &mut Vec<u8>,
+    at: Faulty<'_>,
+    alloc: Global,
+) -> Result<(), AllocError>
     ensures { OnOk result (AddsHelp at.entry.fault.line out.old.items out.new.items) }
 {
-    let Some((_, rest)) = at.mnemonic() else {
+    let Some((_, rest)) = at.mnemonic(isa) else {
         return Ok(());
     };
     let mut sides = Vec::new(alloc);
-    push_sides(&mut sides, rest)?;
+    push_sides(isa, &mut sides, rest)?;
     at.push(out, &[&sides])
 }
 
 #[tactic(auto, using(crate::proofs::HintLemmas::adds_none, crate::proofs::HintLemmas::adds_behind_on))]
 fn push_form_help(
+    isa: InstructionSet,
     out: &mut Vec<u8>,
     at: Faulty<'_>,
     fault: FormFault,
@@ -366,32 +402,37 @@ fn push_form_help(
 {
     match fault {
         FormFault::BadCondition => Ok(()),
-        FormFault::ConstantRange => push_range_help(out, at, alloc),
+        FormFault::ConstantRange => push_range_help(isa, out, at, alloc),
         FormFault::TwoCrossed => {
-            push_side_help(out, at, alloc)?;
+            push_side_help(isa, out, at, alloc)?;
             at.push(
                 out,
                 &[b"one source comes over the cross path: bring the other one over by MV first"],
             )
         }
-        FormFault::BadSide => push_side_help(out, at, alloc),
+        FormFault::BadSide => push_side_help(isa, out, at, alloc),
         FormFault::NoUnit => {
-            push_side_help(out, at, alloc)?;
-            push_unit_help(out, at, alloc)
+            push_side_help(isa, out, at, alloc)?;
+            push_unit_help(isa, out, at, alloc)
         }
     }
 }
 
 /// Lines of help for a fault, where something is known that helps.
 #[tactic(auto, using(crate::proofs::HintLemmas::adds_none, crate::proofs::HintLemmas::adds_behind_on))]
-fn push_help(out: &mut Vec<u8>, at: Faulty<'_>, alloc: Global) -> Result<(), AllocError>
+fn push_help(
+    isa: InstructionSet,
+    out: &mut Vec<u8>,
+    at: Faulty<'_>,
+    alloc: Global,
+) -> Result<(), AllocError>
     ensures { OnOk result (AddsHelp at.entry.fault.line out.old.items out.new.items) }
 {
     match at.fault.cause {
-        Cause::UnknownMnemonic => push_mnemonic_help(out, at),
-        Cause::BadUnit => push_unit_help(out, at, alloc),
-        Cause::BadOperand => push_operand_help(out, at, alloc),
-        Cause::Form(fault) => push_form_help(out, at, fault, alloc),
+        Cause::UnknownMnemonic => push_mnemonic_help(isa, out, at),
+        Cause::BadUnit => push_unit_help(isa, out, at, alloc),
+        Cause::BadOperand => push_operand_help(isa, out, at, alloc),
+        Cause::Form(fault) => push_form_help(isa, out, at, fault, alloc),
         Cause::UnknownTarget => push_target_help(out, at),
         Cause::DuplicateLabel => push_label_help(out, at, alloc),
         Cause::BadLabel => at.push(
@@ -409,11 +450,15 @@ fn push_help(out: &mut Vec<u8>, at: Faulty<'_>, alloc: Global) -> Result<(), All
 
 /// Lines of help for a fault, none where nothing is known that helps.
 #[tactic(auto, using(crate::proofs::HintLemmas::is_help))]
-pub(crate) fn help_of(alloc: Global, at: Faulty<'_>) -> Result<Vec<u8>, AllocError>
+pub(crate) fn help_of(
+    isa: InstructionSet,
+    alloc: Global,
+    at: Faulty<'_>,
+) -> Result<Vec<u8>, AllocError>
     ensures { IfOk result (λ out. IsHelp at.entry.fault.line out.items) }
 {
     let mut out = Vec::new(alloc);
-    push_help(&mut out, at, alloc)?;
+    push_help(isa, &mut out, at, alloc)?;
     Ok(out)
 }
 
@@ -423,6 +468,7 @@ pub(crate) fn help_of(alloc: Global, at: Faulty<'_>) -> Result<Vec<u8>, AllocErr
 ///
 /// `AllocError` where memory ran out.
 pub fn line_help(
+    isa: InstructionSet,
     alloc: Global,
     text: &[u8],
     line: &[u8],
@@ -437,5 +483,5 @@ pub fn line_help(
         fault,
         place,
     };
-    help_of(alloc, at)
+    help_of(isa, alloc, at)
 }

@@ -9,6 +9,7 @@ use crate::picture::push_picture;
 use crate::placed::{placed_faults, push_all_placed};
 use crate::sentence::sentence;
 use c62_line::ReadFault;
+use c62_op::InstructionSet;
 use c62_place::{Place, place_of};
 use c62_read::first_line;
 use std::alloc::{AllocError, Global};
@@ -33,11 +34,16 @@ pub fn line_at(text: &[u8], number: u32) -> &[u8]
 }
 
 /// Where a fault of this text is found in its line.
-pub(crate) fn place_in(alloc: Global, text: &[u8], fault: ReadFault) -> Result<Place, AllocError>
-    ensures place { IfOk result (λ place. IsPlaceIn text.now fault place) }
+pub(crate) fn place_in(
+    isa: InstructionSet,
+    alloc: Global,
+    text: &[u8],
+    fault: ReadFault,
+) -> Result<Place, AllocError>
+    ensures place { IfOk result (λ place. IsPlaceIn isa text.now fault place) }
     ensures bound { IfOk result (λ place. place.start < 2 ^ 63) }
 {
-    place_of(alloc, fault.cause, line_at(text, fault.line))
+    place_of(isa, alloc, fault.cause, line_at(text, fault.line))
 }
 
 /// A line `FILE:LINE:COLUMN: error: NAME: SENTENCE` for each faulty line of a serial text, at most so many, with the line's
@@ -48,12 +54,18 @@ pub(crate) fn place_in(alloc: Global, text: &[u8], fault: ReadFault) -> Result<P
 ///
 /// `AllocError` where memory ran out.
 #[tactic(auto, using(crate::proofs::PlacedLemmas::lints_text))]
-pub fn lint(alloc: Global, name: &[u8], text: &[u8], most: usize) -> Result<Vec<u8>, AllocError>
+pub fn lint(
+    isa: InstructionSet,
+    alloc: Global,
+    name: &[u8],
+    text: &[u8],
+    most: usize,
+) -> Result<Vec<u8>, AllocError>
     requires { 1 ≤ most }
-    ensures text { IfOk result (λ out. LintsText name.now text.now most out.items) }
-    ensures placed { IfOk result (λ out. LintsPlaced name.now text.now most out.items) }
+    ensures text { IfOk result (λ out. LintsText isa name.now text.now most out.items) }
+    ensures placed { IfOk result (λ out. LintsPlaced isa name.now text.now most out.items) }
 {
-    let all = placed_faults(alloc, text, most)?;
+    let all = placed_faults(isa, alloc, text, most)?;
     let mut out = Vec::new(alloc);
     push_all_placed(&mut out, name, &all)?;
     Ok(out)
@@ -66,17 +78,18 @@ pub fn lint(alloc: Global, name: &[u8], text: &[u8], most: usize) -> Result<Vec<
 ///
 /// `AllocError` where memory ran out.
 pub fn explain(
+    isa: InstructionSet,
     alloc: Global,
     name: &[u8],
     text: &[u8],
     fault: ReadFault,
 ) -> Result<Vec<u8>, AllocError>
-    ensures { IfOk result (λ out. Explains name.now text.now fault out.items) }
+    ensures { IfOk result (λ out. Explains isa name.now text.now fault out.items) }
 {
     if fault.line == 0 {
         return Ok(Vec::new(alloc));
     }
-    let place = place_in(alloc, text, fault)?;
+    let place = place_in(isa, alloc, text, fault)?;
     let line = line_at(text, fault.line);
     let mut out = Vec::new(alloc);
     push_picture(
@@ -88,6 +101,7 @@ pub fn explain(
         sentence(fault.cause),
     )?;
     let help = help_of(
+        isa,
         alloc,
         Faulty {
             text,

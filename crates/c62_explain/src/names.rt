@@ -2,6 +2,7 @@
 
 use crate::near::is_near;
 use c62_insn::Op;
+use c62_op::InstructionSet;
 use c62_token::number::spells;
 
 /// Instructions of the C62x that are left out (docs/MACHINE.md, "What is left out").
@@ -40,7 +41,7 @@ pub(crate) fn is_of_others(word: &[u8]) -> bool {
 }
 
 /// The first mnemonic that the word is one letter off.
-pub(crate) fn nearest_mnemonic(word: &[u8]) -> Option<&'static str> {
+pub(crate) fn nearest_mnemonic(isa: InstructionSet, word: &[u8]) -> Option<&'static str> {
     if word.len() < LEAST_WORD {
         return None;
     }
@@ -50,7 +51,7 @@ pub(crate) fn nearest_mnemonic(word: &[u8]) -> Option<&'static str> {
         }
     }
     for op in Op::ALL {
-        if is_near(op.mnemonic().as_bytes(), word) {
+        if op.is_in(isa) && is_near(op.mnemonic().as_bytes(), word) {
             return Some(op.mnemonic());
         }
     }

@@ -3,6 +3,7 @@
 use crate::picture::push_number;
 use c62_insn::{AddressForm, Letter, Offset, Op, Operands, Reg, Side};
 use c62_line::Mnemonic;
+use c62_op::InstructionSet;
 use c62_place::{Form, Sort, takes_form};
 use c62_token::{Kind, Tokens};
 use std::alloc::{AllocError, Global};
@@ -38,14 +39,18 @@ fn written(form: Form) -> &'static [u8] {
 }
 
 /// The operands that a mnemonic takes.
-pub(crate) fn push_forms(out: &mut Vec<u8>, mnemonic: Mnemonic) -> Result<(), AllocError> {
+pub(crate) fn push_forms(
+    isa: InstructionSet,
+    out: &mut Vec<u8>,
+    mnemonic: Mnemonic,
+) -> Result<(), AllocError> {
     out.extend_from_slice(name_of(mnemonic))?;
     if matches!(mnemonic, Mnemonic::Nop) {
         return out.extend_from_slice(b" takes a number from 1 to 9 or nothing, and no condition");
     }
     let mut between: &[u8] = b" takes ";
     for form in Form::ALL {
-        if takes_form(mnemonic, form) {
+        if takes_form(isa, mnemonic, form) {
             out.extend_from_slice(between)?;
             out.extend_from_slice(written(form))?;
             between = b" or ";
@@ -98,12 +103,15 @@ fn constant_form(sorts: &[Sort]) -> Form {
     }
 }
 
-/// Operands of a form with this constant.
-fn with_constant(form: Form, k: i64) -> Operands {
-    let some = Reg {
-        side: Side::A,
-        number: 0,
-    };
+/// Any register.
+const SOME: Reg = Reg {
+    side: Side::A,
+    number: 0,
+};
+
+/// Operands of a form with this constant and, where they have an address, this base.
+fn with_constant(form: Form, base: Reg, k: i64) -> Operands {
+    let some = SOME;
     match form {
         Form::ConstantFirst => Operands::ConstantFirst(k, some, some),
         Form::Constant => Operands::Constant(k, some),
@@ -115,7 +123,7 @@ fn with_constant(form: Form, k: i64) -> Operands {
         },
         Form::Load | Form::Store => Operands::Access {
             register: some,
-            base: some,
+            base,
             form: AddressForm::Plus,
             offset: Offset::Constant(k),
         },
@@ -124,20 +132,26 @@ fn with_constant(form: Form, k: i64) -> Operands {
 }
 
 /// Whether the mnemonic takes this constant on some unit.
-fn takes_constant(mnemonic: Mnemonic, form: Form, k: i64) -> bool {
-    match mnemonic.stands_for(None, with_constant(form, k)) {
+fn takes_constant(isa: InstructionSet, mnemonic: Mnemonic, form: Form, base: Reg, k: i64) -> bool {
+    match mnemonic.stands_for(None, with_constant(form, base, k)) {
         Some(read) => {
             let (op, operands) = read;
-            op.has_constants_in_range(operands)
+            op.has_constants_in_range(isa, operands)
         }
         None => false,
     }
 }
 
 /// The first of these constants that the mnemonic takes.
-fn first_taken(mnemonic: Mnemonic, form: Form, constants: &[i64]) -> i64 {
+fn first_taken(
+    isa: InstructionSet,
+    mnemonic: Mnemonic,
+    form: Form,
+    base: Reg,
+    constants: &[i64],
+) -> i64 {
     for k in constants {
-        if takes_constant(mnemonic, form, *k) {
+        if takes_constant(isa, mnemonic, form, base, *k) {
             return *k;
         }
     }
@@ -156,27 +170,47 @@ const LOWS: [i64; 4] = [-32768, -16, -15, 0];
 
 const HIGHS: [i64; 5] = [65535, 32767, 31, 16, 15];
 
+/// The first register behind a `*`.
+fn base_behind(
+    isa: InstructionSet,
+    found: Option<Reg>,
+    sorts: &[Sort],
+    word: &[u8],
+) -> Option<Reg> {
+    if found.is_some() || !sorts.contains(&Sort::Star) {
+        return found;
+    }
+    match Kind::of(word).read_in(isa) {
+        Kind::Register(reg) => Some(reg),
+        _ => None,
+    }
+}
+
 /// The constants that a mnemonic takes with such operands.
 pub(crate) fn push_range(
+    isa: InstructionSet,
     out: &mut Vec<u8>,
     alloc: Global,
     mnemonic: Mnemonic,
     behind: Tokens<'_>,
 ) -> Result<(), AllocError> {
     let mut sorts = Vec::new(alloc);
+    let mut base = None;
     let mut left = behind;
     while let Some((word, rest)) = left.split() {
         if !word.starts_with(b".") {
-            sorts.push(Sort::of(word))?;
+            base = base_behind(isa, base, &sorts, word);
+            sorts.push(Sort::of(isa, word))?;
         }
         left = rest;
     }
     let form = constant_form(&sorts);
+    let base = base.unwrap_or(SOME);
     out.extend_from_slice(name_of(mnemonic))?;
     out.extend_from_slice(b" takes ")?;
-    push_constant(out, first_taken(mnemonic, form, &LOWS))?;
+    push_constant(out, first_taken(isa, mnemonic, form, base, &LOWS))?;
     out.extend_from_slice(b" to ")?;
-    push_constant(out, first_taken(mnemonic, form, &HIGHS))?;
+    push_constant(out, first_taken(isa, mnemonic, form, base, &HIGHS))?;
     out.extend_from_slice(b" here")?;
     if matches!(mnemonic, Mnemonic::Operation(Op::Mvk)) {
         out.extend_from_slice(b"; MVKL and MVKH make any word")?;
@@ -185,11 +219,15 @@ pub(crate) fn push_range(
 }
 
 /// The registers behind a mnemonic, each with its side.
-pub(crate) fn push_sides(out: &mut Vec<u8>, behind: Tokens<'_>) -> Result<(), AllocError> {
+pub(crate) fn push_sides(
+    isa: InstructionSet,
+    out: &mut Vec<u8>,
+    behind: Tokens<'_>,
+) -> Result<(), AllocError> {
     let mut left = behind;
     let mut between: &[u8] = b"";
     while let Some((word, rest)) = left.split() {
-        if let Kind::Register(reg) = Kind::of(word) {
+        if let Kind::Register(reg) = Kind::of(word).read_in(isa) {
             out.extend_from_slice(between)?;
             out.extend_from_slice(word)?;
             out.extend_from_slice(match reg.side {

@@ -9,6 +9,7 @@ use crate::picture::push_number;
 use crate::sentence::sentence;
 use c62_line::ReadFault;
 use c62_lint::faults_of;
+use c62_op::InstructionSet;
 use std::alloc::{AllocError, Global};
 
 /// A fault of a text, and where it is found in its line.
@@ -20,11 +21,16 @@ pub struct PlacedFault {
 }
 
 /// A fault of this text with its column.
-fn placed_in(alloc: Global, text: &[u8], fault: ReadFault) -> Result<PlacedFault, AllocError>
+fn placed_in(
+    isa: InstructionSet,
+    alloc: Global,
+    text: &[u8],
+    fault: ReadFault,
+) -> Result<PlacedFault, AllocError>
     ensures same { IfOk result (λ placed. placed.fault ≡ fault) }
-    ensures there { IfOk result (IsPlaced text.now) }
+    ensures there { IfOk result (IsPlaced isa text.now) }
 {
-    let place = place_in(alloc, text, fault)?;
+    let place = place_in(isa, alloc, text, fault)?;
     Ok(PlacedFault {
         fault,
         column: place.start + 1,
@@ -33,16 +39,17 @@ fn placed_in(alloc: Global, text: &[u8], fault: ReadFault) -> Result<PlacedFault
 
 /// These faults of this text with their columns.
 fn all_placed(
+    isa: InstructionSet,
     alloc: Global,
     text: &[u8],
     faults: &[ReadFault],
 ) -> Result<Vec<PlacedFault>, AllocError>
     ensures same { IfOk result (λ all. map (λ placed. placed.fault) all.items ≡ faults.now) }
-    ensures there { IfOk result (λ all. All (IsPlaced text.now) all.items) }
+    ensures there { IfOk result (λ all. All (IsPlaced isa text.now) all.items) }
 {
     let mut all = Vec::new(alloc);
     for fault in faults {
-        all.push(placed_in(alloc, text, *fault)?)?;
+        all.push(placed_in(isa, alloc, text, *fault)?)?;
     }
     Ok(all)
 }
@@ -55,15 +62,16 @@ fn all_placed(
 /// `AllocError` where memory ran out.
 #[tactic(auto, using(crate::proofs::PlacedLemmas::are_placed))]
 pub fn placed_faults(
+    isa: InstructionSet,
     alloc: Global,
     text: &[u8],
     most: usize,
 ) -> Result<Vec<PlacedFault>, AllocError>
     requires { 1 ≤ most }
-    ensures { IfOk result (λ all. ArePlaced text.now most all.items) }
+    ensures { IfOk result (λ all. ArePlaced isa text.now most all.items) }
 {
-    let faults = faults_of(alloc, text, most.min(MOST_FAULTS))?;
-    all_placed(alloc, text, &faults)
+    let faults = faults_of(isa, alloc, text, most.min(MOST_FAULTS))?;
+    all_placed(isa, alloc, text, &faults)
 }
 
 /// Adds `FILE:LINE:COLUMN`.

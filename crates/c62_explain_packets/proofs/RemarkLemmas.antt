@@ -24,6 +24,7 @@ use Rattle.c62_explain_packets.specs.declared.finding.Finding.{Finding as Found}
 use Rattle.c62_explain_packets.specs.declared.remarks.PlacedFinding.{PlacedFinding}
 use Rattle.c62_explain_packets.specs.declared.remarks.PlacedRead.{PlacedRead}
 use Rattle.c62_explain_packets.specs.declared.remarks.Remarks.{Remarks}
+use Rattle.c62_op.specs.declared.set.InstructionSet.{InstructionSet}
 
 -- the line that writes, and what it does
 writer_there : (early : EarlyRead) (old first second new : List ℕ) → first ≡ old ++ codes ", which line "
@@ -82,16 +83,17 @@ all_warned name (read ∷ others) = (
   all_warned name others,
 )
 
-told : (name text : List ℕ) (placed : PlacedFinding) → IsPlaced text placed
-    → TellsFault name text placed.finding (placed_line name placed)
+told : (isa : InstructionSet) (name text : List ℕ) (placed : PlacedFinding) → IsPlaced isa text placed
+    → TellsFault isa name text placed.finding (placed_line name placed)
 unfolding placed_line
-told name text placed is = record { place = is.place; there = is.there; says = rw is.column refl }
+told isa name text placed is = record { place = is.place; there = is.there; says = rw is.column refl }
 
-tells_found : (name text : List ℕ) (found : Option Found) (fault : Option PlacedFinding) → IsPlacedAs text found fault
-    → TellsFound name text found (fault_line name fault)
-tells_found name text None fault is = rw is refl
-tells_found name text (Some found) fault (placed, is, same, there) =
-    rw (is, ← same) (told name text placed there)
+tells_found : (isa : InstructionSet) (name text : List ℕ) (found : Option Found) (fault : Option PlacedFinding)
+    → IsPlacedAs isa text found fault
+    → TellsFound isa name text found (fault_line name fault)
+tells_found isa name text None fault is = rw is refl
+tells_found isa name text (Some found) fault (placed, is, same, there) =
+    rw (is, ← same) (told isa name text placed there)
 
 -- a fault has its line alone
 alone : (name : List ℕ) (remarks : Remarks) → remarks.reads.items ≡ []
@@ -105,25 +107,27 @@ reads_alone : (name : List ℕ) (remarks : Remarks) → remarks.fault ≡ None
 unfolding remark_lines
 reads_alone name remarks none = rw none refl
 
-pub lints_packets : (most : ℕ) (name text lines : List ℕ) (remarks : Remarks) → AreRemarks most text remarks
-    → lines ≡ remark_lines name remarks → IsLintedPackets most name text lines remarks.faulty
-lints_packets most name text lines remarks (Adopted sound packets added is none reads) says =
+pub lints_packets : (isa : InstructionSet) (most : ℕ) (name text lines : List ℕ) (remarks : Remarks)
+    → AreRemarks isa most text remarks
+    → lines ≡ remark_lines name remarks → IsLintedPackets isa most name text lines remarks.faulty
+lints_packets isa most name text lines remarks (Adopted sound packets added is none reads) says =
     AdoptedLines sound packets added is record {
       drafts = reads.drafts;
       all = reads.all;
       warned = rw (says, reads_alone name remarks none, ← reads.same) (all_warned name remarks.reads.items);
     }
-lints_packets most name text lines remarks (Refused faulty fault room refuses placed is same there none) says =
+lints_packets isa most name text lines remarks (Refused faulty fault room refuses placed is same there none) says =
     RefusedLines faulty fault room refuses record {
       found = placed.finding;
       same = same;
-      tells = rw (says, alone name remarks none, is) (told name text placed there);
+      tells = rw (says, alone name remarks none, is) (told isa name text placed there);
     }
 
-pub lints_listing : (name text lines : List ℕ) (remarks : Remarks) → AreListingRemarks text remarks
-    → lines ≡ remark_lines name remarks → IsLintedListing name text lines remarks.faulty
-lints_listing name text lines remarks (Read sound packets is none reads) says =
+pub lints_listing : (isa : InstructionSet) (name text lines : List ℕ) (remarks : Remarks)
+    → AreListingRemarks isa text remarks
+    → lines ≡ remark_lines name remarks → IsLintedListing isa name text lines remarks.faulty
+lints_listing isa name text lines remarks (Read sound packets is none reads) says =
     ReadLines sound packets is (rw (says, alone name remarks reads, none) refl)
-lints_listing name text lines remarks (Unread faulty fault room refuses found is placed reads) says =
+lints_listing isa name text lines remarks (Unread faulty fault room refuses found is placed reads) says =
     UnreadLines faulty fault room refuses found is
-    (rw (says, alone name remarks reads) (tells_found name text found remarks.fault placed))
+    (rw (says, alone name remarks reads) (tells_found isa name text found remarks.fault placed))

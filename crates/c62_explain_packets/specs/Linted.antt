@@ -11,17 +11,18 @@ use Rattle.c62_adopt.specs.Answer.{IsAdopted, Refuses}
 use Rattle.c62_explain_packets.specs.Listed.{IsFoundListed, TellsFound}
 use Rattle.c62_explain_packets.specs.Warned.{TellsRefusal, WarnsText}
 use Rattle.c62_explain_packets.specs.declared.finding.Finding.{Finding as Found}
+use Rattle.c62_op.specs.declared.set.InstructionSet.{InstructionSet}
 
 -- A text of packets has a fault where it isn't adopted as it stands, and the line tells that. Of one that is adopted the reads in delay slots
 -- are told, at most so many.
-pub data IsLintedPackets (most : ℕ) (name text lines : List ℕ) (faulty : Bool) : Type 0 where
-  Adopted : faulty ≡ false → (packets : List Packed) (added : ℕ) → IsAdopted false text packets added → WarnsText most name text lines
-      → IsLintedPackets most name text lines faulty
-  Refused : faulty ≡ true → (fault : AdoptFault) → fault ≢ NoRoom → Refuses false text fault → TellsRefusal name text fault lines
-      → IsLintedPackets most name text lines faulty
+pub data IsLintedPackets (isa : InstructionSet) (most : ℕ) (name text lines : List ℕ) (faulty : Bool) : Type 0 where
+  Adopted : faulty ≡ false → (packets : List Packed) (added : ℕ) → IsAdopted isa false text packets added → WarnsText isa most name text lines
+      → IsLintedPackets isa most name text lines faulty
+  Refused : faulty ≡ true → (fault : AdoptFault) → fault ≢ NoRoom → Refuses isa false text fault → TellsRefusal isa name text fault lines
+      → IsLintedPackets isa most name text lines faulty
 
 -- and a listing where it isn't read
-pub data IsLintedListing (name text lines : List ℕ) (faulty : Bool) : Type 0 where
-  Read : faulty ≡ false → (packets : List Packed) → IsRead text packets → lines ≡ [] → IsLintedListing name text lines faulty
-  Unread : faulty ≡ true → (fault : ListFault) → fault ≢ NoStore → RefusesListing text fault
-      → (found : Option Found) → IsFoundListed text fault found → TellsFound name text found lines → IsLintedListing name text lines faulty
+pub data IsLintedListing (isa : InstructionSet) (name text lines : List ℕ) (faulty : Bool) : Type 0 where
+  Read : faulty ≡ false → (packets : List Packed) → IsRead isa text packets → lines ≡ [] → IsLintedListing isa name text lines faulty
+  Unread : faulty ≡ true → (fault : ListFault) → fault ≢ NoStore → RefusesListing isa text fault
+      → (found : Option Found) → IsFoundListed isa text fault found → TellsFound isa name text found lines → IsLintedListing isa name text lines faulty

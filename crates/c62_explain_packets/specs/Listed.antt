@@ -10,19 +10,20 @@ use Rattle.c62_explain_packets.specs.Finding.{IsToldAs, found_at}
 use Rattle.c62_explain_packets.specs.Warned.{TellsFault}
 use Rattle.c62_explain_packets.specs.declared.finding.Finding.{Finding as Found}
 use Rattle.c62_explain_packets.specs.declared.finding.What.TheVariants as what
+use Rattle.c62_op.specs.declared.set.InstructionSet.{InstructionSet}
 
 -- of a block it is what keeps the text from being adopted as packets
-abbrev pub IsFoundInBlock : List ℕ → Option Found → Type 0
-IsFoundInBlock text None = (packets : List Packed) × (added : ℕ) × IsAdopted false text packets added
-IsFoundInBlock text (Some found) = (fault : AdoptFault) × Refuses false text fault × IsToldAs (adopt_fault_text fault) found
+abbrev pub IsFoundInBlock : InstructionSet → List ℕ → Option Found → Type 0
+IsFoundInBlock isa text None = (packets : List Packed) × (added : ℕ) × IsAdopted isa false text packets added
+IsFoundInBlock isa text (Some found) = (fault : AdoptFault) × Refuses isa false text fault × IsToldAs (adopt_fault_text fault) found
 
 -- of a line it is what the listing is refused for: that line and the fault
-abbrev pub IsFoundListed : List ℕ → ListFault → Option Found → Type 0
-IsFoundListed text (list.Read fault) found = found ≡ Some (found_at fault.line (what.Read fault.cause))
-IsFoundListed text (list.Shape line) found = found ≡ Some (found_at line what.Shape)
-IsFoundListed text fault found = IsFoundInBlock text found
+abbrev pub IsFoundListed : InstructionSet → List ℕ → ListFault → Option Found → Type 0
+IsFoundListed isa text (list.Read fault) found = found ≡ Some (found_at fault.line (what.Read fault.cause))
+IsFoundListed isa text (list.Shape line) found = found ≡ Some (found_at line what.Shape)
+IsFoundListed isa text fault found = IsFoundInBlock isa text found
 
 -- a line tells what is found
-abbrev pub TellsFound : (name text : List ℕ) → Option Found → List ℕ → Type 0
-TellsFound name text None lines = lines ≡ []
-TellsFound name text (Some found) lines = TellsFault name text found lines
+abbrev pub TellsFound : InstructionSet → (name text : List ℕ) → Option Found → List ℕ → Type 0
+TellsFound isa name text None lines = lines ≡ []
+TellsFound isa name text (Some found) lines = TellsFault isa name text found lines

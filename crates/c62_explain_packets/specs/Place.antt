@@ -9,6 +9,7 @@ use Rattle.c62_adopt_line.specs.Line.{behind_bars}
 use Rattle.c62_explain.specs.Picture.{blank_byte}
 use Rattle.c62_explain_packets.specs.declared.finding.What.{What}
 use Rattle.c62_explain_packets.specs.declared.finding.What.TheVariants.{Read, UnitWanted, TooManyCycles, TwoBranches, BranchBeside, TooManyTargets, NotDrained, Rule, Code, Shape}
+use Rattle.c62_op.specs.declared.set.InstructionSet.{InstructionSet}
 
 -- the fault of serial text that is found at the same token
 abbrev pub serial_cause : What → Cause
@@ -37,5 +38,5 @@ searched_line (Read ParallelBar) line = line
 searched_line what line = without_bars line
 
 -- The fault is found where that of serial text is found.
-abbrev pub IsFoundAt : What → List ℕ → Place → Type 0
-IsFoundAt what line place = IsPlace (serial_cause what) (searched_line what line) place
+abbrev pub IsFoundAt : InstructionSet → What → List ℕ → Place → Type 0
+IsFoundAt isa what line place = IsPlace isa (serial_cause what) (searched_line what line) place

@@ -24,40 +24,41 @@ use Rattle.c62_explain_packets.specs.declared.finding.Finding.{Finding as Found}
 use Rattle.c62_explain_packets.specs.declared.remarks.PlacedFinding.{PlacedFinding}
 use Rattle.c62_explain_packets.specs.declared.remarks.PlacedRead.{PlacedRead}
 use Rattle.c62_explain_packets.specs.declared.remarks.Remarks.{Remarks}
+use Rattle.c62_op.specs.declared.set.InstructionSet.{InstructionSet}
 
 -- the column is that of the place where it is found in its line of the text, from 1
-pub record IsPlaced (text : List ℕ) (placed : PlacedFinding) : Type 0 where
+pub record IsPlaced (isa : InstructionSet) (text : List ℕ) (placed : PlacedFinding) : Type 0 where
   pub place : Place
-  pub there : IsFoundAt placed.finding.what (line_at text placed.finding.line) place
+  pub there : IsFoundAt isa placed.finding.what (line_at text placed.finding.line) place
   pub column : placed.column ≡ place.start + 1
 
 -- what is found, where something is, with its column
-abbrev pub IsPlacedAs : (text : List ℕ) → Option Found → Option PlacedFinding → Type 0
-IsPlacedAs text None fault = fault ≡ None
-IsPlacedAs text (Some found) fault = (placed : PlacedFinding) × (fault ≡ Some placed) × (placed.finding ≡ found) × IsPlaced text placed
+abbrev pub IsPlacedAs : InstructionSet → (text : List ℕ) → Option Found → Option PlacedFinding → Type 0
+IsPlacedAs isa text None fault = fault ≡ None
+IsPlacedAs isa text (Some found) fault = (placed : PlacedFinding) × (fault ≡ Some placed) × (placed.finding ≡ found) × IsPlaced isa text placed
 
 -- the first reads in delay slots of a text, at most so many, each with a column
-pub record AreReads (most : ℕ) (text : List ℕ) (reads : List PlacedRead) : Type 0 where
+pub record AreReads (isa : InstructionSet) (most : ℕ) (text : List ℕ) (reads : List PlacedRead) : Type 0 where
   pub drafts : List Draft
-  pub all : map draft_of drafts ≡ (code_cut text).drafts
+  pub all : map draft_of drafts ≡ (code_cut isa text).drafts
   pub same : map (λ read. read.early) reads ≡ take most (early_among drafts)
 
 -- A text of packets has a fault where it isn't adopted as it stands, and is told as that. Of one that is adopted there are the reads in delay
 -- slots, at most so many.
-pub data AreRemarks (most : ℕ) (text : List ℕ) (remarks : Remarks) : Type 0 where
-  Adopted : remarks.faulty ≡ false → (packets : List Packed) (added : ℕ) → IsAdopted false text packets added → remarks.fault ≡ None
-      → AreReads most text remarks.reads.items → AreRemarks most text remarks
-  Refused : remarks.faulty ≡ true → (fault : AdoptFault) → fault ≢ NoRoom → Refuses false text fault
-      → (placed : PlacedFinding) → remarks.fault ≡ Some placed → IsToldAs (adopt_fault_text fault) placed.finding → IsPlaced text placed
-      → remarks.reads.items ≡ [] → AreRemarks most text remarks
+pub data AreRemarks (isa : InstructionSet) (most : ℕ) (text : List ℕ) (remarks : Remarks) : Type 0 where
+  Adopted : remarks.faulty ≡ false → (packets : List Packed) (added : ℕ) → IsAdopted isa false text packets added → remarks.fault ≡ None
+      → AreReads isa most text remarks.reads.items → AreRemarks isa most text remarks
+  Refused : remarks.faulty ≡ true → (fault : AdoptFault) → fault ≢ NoRoom → Refuses isa false text fault
+      → (placed : PlacedFinding) → remarks.fault ≡ Some placed → IsToldAs (adopt_fault_text fault) placed.finding → IsPlaced isa text placed
+      → remarks.reads.items ≡ [] → AreRemarks isa most text remarks
 
 -- and a listing where it isn't read
-pub data AreListingRemarks (text : List ℕ) (remarks : Remarks) : Type 0 where
-  Read : remarks.faulty ≡ false → (packets : List Packed) → IsRead text packets → remarks.fault ≡ None → remarks.reads.items ≡ []
-      → AreListingRemarks text remarks
-  Unread : remarks.faulty ≡ true → (fault : ListFault) → fault ≢ NoStore → RefusesListing text fault
-      → (found : Option Found) → IsFoundListed text fault found → IsPlacedAs text found remarks.fault → remarks.reads.items ≡ []
-      → AreListingRemarks text remarks
+pub data AreListingRemarks (isa : InstructionSet) (text : List ℕ) (remarks : Remarks) : Type 0 where
+  Read : remarks.faulty ≡ false → (packets : List Packed) → IsRead isa text packets → remarks.fault ≡ None → remarks.reads.items ≡ []
+      → AreListingRemarks isa text remarks
+  Unread : remarks.faulty ≡ true → (fault : ListFault) → fault ≢ NoStore → RefusesListing isa text fault
+      → (found : Option Found) → IsFoundListed isa text fault found → IsPlacedAs isa text found remarks.fault → remarks.reads.items ≡ []
+      → AreListingRemarks isa text remarks
 
 -- ---- lines
 
@@ -79,12 +80,12 @@ unfoldable pub remark_lines : (name : List ℕ) → Remarks → List ℕ
 remark_lines name remarks = fault_line name remarks.fault ++ flat_map (read_line name) remarks.reads.items
 
 -- these are the lines of what is found in packets, and in a listing
-pub record TellsRemarks (most : ℕ) (name text lines : List ℕ) : Type 0 where
+pub record TellsRemarks (isa : InstructionSet) (most : ℕ) (name text lines : List ℕ) : Type 0 where
   pub remarks : Remarks
-  pub are : AreRemarks most text remarks
+  pub are : AreRemarks isa most text remarks
   pub says : lines ≡ remark_lines name remarks
 
-pub record TellsListingRemarks (name text lines : List ℕ) : Type 0 where
+pub record TellsListingRemarks (isa : InstructionSet) (name text lines : List ℕ) : Type 0 where
   pub remarks : Remarks
-  pub are : AreListingRemarks text remarks
+  pub are : AreListingRemarks isa text remarks
   pub says : lines ≡ remark_lines name remarks

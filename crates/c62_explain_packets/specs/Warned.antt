@@ -15,6 +15,7 @@ use Rattle.c62_explain_packets.specs.Place.{IsFoundAt}
 use Rattle.c62_explain_packets.specs.Finding.{IsToldAs, what_name}
 use Rattle.c62_explain_packets.specs.declared.early.EarlyRead.{EarlyRead}
 use Rattle.c62_explain_packets.specs.declared.finding.Finding.{Finding as Found}
+use Rattle.c62_op.specs.declared.set.InstructionSet.{InstructionSet}
 
 -- `FILE:LINE:COLUMN: `
 abbrev pub editors_place : (name : List ℕ) → (line column : ℕ) → List ℕ
@@ -27,16 +28,16 @@ abbrev pub fault_text : (name sentence : List ℕ) → List ℕ
 fault_text name sentence = codes ": error: " ++ name ++ codes ": " ++ sentence ++ codes "\n"
 
 -- `FILE:LINE:COLUMN: error: NAME: SENTENCE`, at the place where the fault is found in that line of the text
-pub record TellsFault (name text : List ℕ) (found : Found) (lines : List ℕ) : Type 0 where
+pub record TellsFault (isa : InstructionSet) (name text : List ℕ) (found : Found) (lines : List ℕ) : Type 0 where
   pub place : Place
-  pub there : IsFoundAt found.what (line_at text found.line) place
+  pub there : IsFoundAt isa found.what (line_at text found.line) place
   pub says : lines ≡ position name found.line place ++ fault_text (what_name found.what) (what_sentence found.what)
 
 -- a line tells what the text is refused for: the line and the name are those of the refusal
-pub record TellsRefusal (name text : List ℕ) (fault : AdoptFault) (lines : List ℕ) : Type 0 where
+pub record TellsRefusal (isa : InstructionSet) (name text : List ℕ) (fault : AdoptFault) (lines : List ℕ) : Type 0 where
   pub found : Found
   pub same : IsToldAs (adopt_fault_text fault) found
-  pub tells : TellsFault name text found lines
+  pub tells : TellsFault isa name text found lines
 
 -- ---- reads in delay slots
 
@@ -82,7 +83,7 @@ abbrev pub early_among : List Draft → List EarlyRead
 early_among drafts = flat_map (λ draft. early_reads draft.issues.items) drafts
 
 -- a warning for each of the first reads in delay slots of a text, at most so many
-pub record WarnsText (most : ℕ) (name text lines : List ℕ) : Type 0 where
+pub record WarnsText (isa : InstructionSet) (most : ℕ) (name text lines : List ℕ) : Type 0 where
   pub drafts : List Draft
-  pub all : map draft_of drafts ≡ (code_cut text).drafts
+  pub all : map draft_of drafts ≡ (code_cut isa text).drafts
   pub warned : AreWarned name (take most (early_among drafts)) lines

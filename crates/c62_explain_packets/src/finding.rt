@@ -19,6 +19,7 @@ use c62_explain::{push_blanks, sentence_of};
 use c62_insn::FormFault;
 use c62_line::Cause;
 use c62_listing_reader::ListFault;
+use c62_op::InstructionSet;
 use c62_packet::PacketRule;
 use c62_place::{Place, place_of};
 use c62_rows::{RowsCause, RowsFault};
@@ -206,10 +207,10 @@ pub fn of_rows(fault: RowsFault) -> Option<Finding>
 }
 
 /// What keeps a text from being adopted as it stands.
-fn of_block(alloc: Global, text: &[u8]) -> Result<Option<Finding>, AllocError>
-    ensures { IfOk result (IsFoundInBlock text.now) }
+fn of_block(isa: InstructionSet, alloc: Global, text: &[u8]) -> Result<Option<Finding>, AllocError>
+    ensures { IfOk result (IsFoundInBlock isa text.now) }
 {
-    match adopt(alloc, text, false) {
+    match adopt(isa, alloc, text, false) {
         Ok(_) => Ok(None),
         Err(fault) => match of_adopt(fault) {
             Some(finding) => Ok(Some(finding)),
@@ -224,18 +225,19 @@ fn of_block(alloc: Global, text: &[u8]) -> Result<Option<Finding>, AllocError>
 ///
 /// `AllocError` where memory ran out.
 pub fn of_listing(
+    isa: InstructionSet,
     alloc: Global,
     text: &[u8],
     fault: ListFault,
 ) -> Result<Option<Finding>, AllocError>
-    ensures { IfOk result (IsFoundListed text.now fault) }
+    ensures { IfOk result (IsFoundListed isa text.now fault) }
 {
     match fault {
         ListFault::Read(fault) => Ok(Finding::at(fault.line, Some(What::Read(fault.cause)))),
         ListFault::Shape(line) => Ok(Finding::at(line, Some(What::Shape))),
         ListFault::Memory => Err(AllocError),
         ListFault::Unlawful(_, _, _) | ListFault::NotDrained(_) | ListFault::TwoBranches(_) => {
-            of_block(alloc, text)
+            of_block(isa, alloc, text)
         }
     }
 }
@@ -272,10 +274,15 @@ fn searched_line(alloc: Global, what: What, line: &[u8]) -> Result<Vec<u8>, Allo
 }
 
 /// Where in its line the fault is found.
-pub(crate) fn place_in(alloc: Global, what: What, line: &[u8]) -> Result<Place, AllocError>
-    ensures place { IfOk result (IsFoundAt what line.now) }
+pub(crate) fn place_in(
+    isa: InstructionSet,
+    alloc: Global,
+    what: What,
+    line: &[u8],
+) -> Result<Place, AllocError>
+    ensures place { IfOk result (IsFoundAt isa what line.now) }
     ensures bound { IfOk result (λ place. place.start < 2 ^ 63) }
 {
     let searched = searched_line(alloc, what, line)?;
-    place_of(alloc, what.cause(), &searched)
+    place_of(isa, alloc, what.cause(), &searched)
 }

@@ -11,6 +11,7 @@ use c62_adopt_cut::{Cut, Draft, Issue};
 use c62_explain::{line_at, line_help, push_hint};
 use c62_insn::{Letter, Reg, Side, Unit};
 use c62_line::{Cause, ReadFault};
+use c62_op::InstructionSet;
 use c62_packet::PacketRule;
 use c62_place::{Place, token_at};
 use c62_rules::Resource;
@@ -242,6 +243,7 @@ fn push_branch(out: &mut Vec<u8>, text: &[u8], number: u32, cut: &Cut) -> Result
 /// What helps where a line has a fault that serial texts have, too; `serial` is the line without its bars.
 #[tactic(auto, using(c62_explain::proofs::HintLemmas::adds_none))]
 fn push_read_help(
+    isa: InstructionSet,
     out: &mut Vec<u8>,
     alloc: Global,
     text: &[u8],
@@ -258,13 +260,14 @@ fn push_read_help(
             &[b"docs/ADOPT.md has the directives that are read"],
         ),
         Cause::ParallelBar | Cause::DuplicateLabel => Ok(()),
-        _ => out.extend_from_slice(&line_help(alloc, text, serial, fault, place)?),
+        _ => out.extend_from_slice(&line_help(isa, alloc, text, serial, fault, place)?),
     }
 }
 
 /// Lines of help for a fault of packets; `cut` has the blocks of the text's code.
 #[tactic(auto, using(c62_explain::proofs::HintLemmas::adds_none))]
 pub(crate) fn push_help(
+    isa: InstructionSet,
     out: &mut Vec<u8>,
     alloc: Global,
     text: &[u8],
@@ -278,6 +281,7 @@ pub(crate) fn push_help(
     let number = finding.line;
     match finding.what {
         What::Read(cause) => push_read_help(
+            isa,
             out,
             alloc,
             text,

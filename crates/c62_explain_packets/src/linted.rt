@@ -10,6 +10,7 @@ use crate::early::EarlyRead;
 use crate::help::push_register;
 use crate::remarks::{PlacedFinding, PlacedRead, Remarks, listing_remarks, packets_remarks};
 use c62_explain::push_column;
+use c62_op::InstructionSet;
 use itoa::Buffer;
 use std::alloc::{AllocError, Global};
 
@@ -184,15 +185,16 @@ fn lines_of(alloc: Global, name: &[u8], remarks: &Remarks) -> Result<Vec<u8>, Al
 ///
 /// `AllocError` where memory ran out.
 pub fn lint_packets(
+    isa: InstructionSet,
     alloc: Global,
     name: &[u8],
     text: &[u8],
     most: usize,
 ) -> Result<Linted, AllocError>
-    ensures linted { IfOk result (λ linted. IsLintedPackets most name.now text.now linted.lines.items linted.faulty) }
-    ensures remarks { IfOk result (λ linted. TellsRemarks most name.now text.now linted.lines.items) }
+    ensures linted { IfOk result (λ linted. IsLintedPackets isa most name.now text.now linted.lines.items linted.faulty) }
+    ensures remarks { IfOk result (λ linted. TellsRemarks isa most name.now text.now linted.lines.items) }
 {
-    let remarks = packets_remarks(alloc, text, most)?;
+    let remarks = packets_remarks(isa, alloc, text, most)?;
     let lines = lines_of(alloc, name, &remarks)?;
     let faulty = remarks.faulty;
     Ok(Linted { lines, faulty })
@@ -204,11 +206,16 @@ pub fn lint_packets(
 /// # Errors
 ///
 /// `AllocError` where memory ran out.
-pub fn lint_listing(alloc: Global, name: &[u8], text: &[u8]) -> Result<Linted, AllocError>
-    ensures linted { IfOk result (λ linted. IsLintedListing name.now text.now linted.lines.items linted.faulty) }
-    ensures remarks { IfOk result (λ linted. TellsListingRemarks name.now text.now linted.lines.items) }
+pub fn lint_listing(
+    isa: InstructionSet,
+    alloc: Global,
+    name: &[u8],
+    text: &[u8],
+) -> Result<Linted, AllocError>
+    ensures linted { IfOk result (λ linted. IsLintedListing isa name.now text.now linted.lines.items linted.faulty) }
+    ensures remarks { IfOk result (λ linted. TellsListingRemarks isa name.now text.now linted.lines.items) }
 {
-    let remarks = listing_remarks(alloc, text)?;
+    let remarks = listing_remarks(isa, alloc, text)?;
     let lines = lines_of(alloc, name, &remarks)?;
     let faulty = remarks.faulty;
     Ok(Linted { lines, faulty })

@@ -13,6 +13,7 @@ use c62_adopt_cut::{Cut, Draft, read_cut};
 use c62_explain::line_at;
 use c62_insn::Reg;
 use c62_listing_reader::{ListFault, read_listing};
+use c62_op::InstructionSet;
 use c62_place::{Place, token_at};
 use c62_token::Kind;
 use std::alloc::{AllocError, Global};
@@ -45,11 +46,16 @@ pub struct Remarks {
 }
 
 /// A fault of this text with its column.
-fn placed(alloc: Global, text: &[u8], finding: Finding) -> Result<PlacedFinding, AllocError>
+fn placed(
+    isa: InstructionSet,
+    alloc: Global,
+    text: &[u8],
+    finding: Finding,
+) -> Result<PlacedFinding, AllocError>
     ensures same { IfOk result (λ placed. placed.finding ≡ finding) }
-    ensures there { IfOk result (IsPlaced text.now) }
+    ensures there { IfOk result (IsPlaced isa text.now) }
 {
-    let place = place_in(alloc, finding.what, line_at(text, finding.line))?;
+    let place = place_in(isa, alloc, finding.what, line_at(text, finding.line))?;
     Ok(PlacedFinding {
         finding,
         column: place.start + 1,
@@ -58,14 +64,15 @@ fn placed(alloc: Global, text: &[u8], finding: Finding) -> Result<PlacedFinding,
 
 /// What is found in this text, where something is, with its column.
 fn placed_as(
+    isa: InstructionSet,
     alloc: Global,
     text: &[u8],
     found: Option<Finding>,
 ) -> Result<Option<PlacedFinding>, AllocError>
-    ensures { IfOk result (IsPlacedAs text.now found) }
+    ensures { IfOk result (IsPlacedAs isa text.now found) }
 {
     match found {
-        Some(finding) => Ok(Some(placed(alloc, text, finding)?)),
+        Some(finding) => Ok(Some(placed(isa, alloc, text, finding)?)),
         None => Ok(None),
     }
 }
@@ -122,20 +129,25 @@ fn early_among(alloc: Global, drafts: &[Draft]) -> Result<Vec<EarlyRead>, AllocE
 }
 
 /// The blocks of a text that has code. Memory alone can run out then.
-fn cut_of_code(alloc: Global, text: &[u8]) -> Result<Cut, AllocError>
-    ensures { IfOk result (λ cut. cut_of cut ≡ code_cut text.now) }
+fn cut_of_code(isa: InstructionSet, alloc: Global, text: &[u8]) -> Result<Cut, AllocError>
+    ensures { IfOk result (λ cut. cut_of cut ≡ code_cut isa text.now) }
 {
-    match read_code(alloc, text) {
-        Ok(code) => read_cut(alloc, &code),
+    match read_code(isa, alloc, text) {
+        Ok(code) => read_cut(isa, alloc, &code),
         Err(_) => Err(AllocError),
     }
 }
 
 /// The reads in delay slots of a text of packets that is adopted, at most so many.
-fn reads_of(alloc: Global, text: &[u8], most: usize) -> Result<Vec<PlacedRead>, AllocError>
-    ensures { IfOk result (λ reads. AreReads most text.now reads.items) }
+fn reads_of(
+    isa: InstructionSet,
+    alloc: Global,
+    text: &[u8],
+    most: usize,
+) -> Result<Vec<PlacedRead>, AllocError>
+    ensures { IfOk result (λ reads. AreReads isa most text.now reads.items) }
 {
-    let cut = cut_of_code(alloc, text)?;
+    let cut = cut_of_code(isa, alloc, text)?;
     let mut reads = early_among(alloc, &cut.drafts)?;
     reads.truncate(most);
     placed_reads(alloc, text, &reads)
@@ -147,14 +159,19 @@ fn reads_of(alloc: Global, text: &[u8], most: usize) -> Result<Vec<PlacedRead>, 
 /// # Errors
 ///
 /// `AllocError` where memory ran out.
-pub fn packets_remarks(alloc: Global, text: &[u8], most: usize) -> Result<Remarks, AllocError>
-    ensures { IfOk result (AreRemarks most text.now) }
+pub fn packets_remarks(
+    isa: InstructionSet,
+    alloc: Global,
+    text: &[u8],
+    most: usize,
+) -> Result<Remarks, AllocError>
+    ensures { IfOk result (AreRemarks isa most text.now) }
 {
-    let fault = match adopt(alloc, text, false) {
+    let fault = match adopt(isa, alloc, text, false) {
         Ok(_) => {
             return Ok(Remarks {
                 fault: None,
-                reads: reads_of(alloc, text, most)?,
+                reads: reads_of(isa, alloc, text, most)?,
                 faulty: false,
             });
         }
@@ -164,7 +181,7 @@ pub fn packets_remarks(alloc: Global, text: &[u8], most: usize) -> Result<Remark
         return Err(AllocError);
     };
     Ok(Remarks {
-        fault: Some(placed(alloc, text, finding)?),
+        fault: Some(placed(isa, alloc, text, finding)?),
         reads: Vec::new(alloc),
         faulty: true,
     })
@@ -176,10 +193,14 @@ pub fn packets_remarks(alloc: Global, text: &[u8], most: usize) -> Result<Remark
 /// # Errors
 ///
 /// `AllocError` where memory ran out.
-pub fn listing_remarks(alloc: Global, text: &[u8]) -> Result<Remarks, AllocError>
-    ensures { IfOk result (AreListingRemarks text.now) }
+pub fn listing_remarks(
+    isa: InstructionSet,
+    alloc: Global,
+    text: &[u8],
+) -> Result<Remarks, AllocError>
+    ensures { IfOk result (AreListingRemarks isa text.now) }
 {
-    let fault = match read_listing(alloc, text) {
+    let fault = match read_listing(isa, alloc, text) {
         Ok(_) => {
             return Ok(Remarks {
                 fault: None,
@@ -192,9 +213,9 @@ pub fn listing_remarks(alloc: Global, text: &[u8]) -> Result<Remarks, AllocError
     if let ListFault::Memory = fault {
         return Err(AllocError);
     }
-    let found = of_listing(alloc, text, fault)?;
+    let found = of_listing(isa, alloc, text, fault)?;
     Ok(Remarks {
-        fault: placed_as(alloc, text, found)?,
+        fault: placed_as(isa, alloc, text, found)?,
         reads: Vec::new(alloc),
         faulty: true,
     })

@@ -8,14 +8,15 @@ use crate::help::push_help;
 use c62_adopt::{AdoptFault, read_code};
 use c62_adopt_cut::{Cut, read_cut};
 use c62_explain::{line_at, push_picture};
+use c62_op::InstructionSet;
 use std::alloc::{AllocError, Global};
 
 /// The blocks of a text's code, as far as they are read; those of the text itself where it has no code.
-pub(crate) fn cut_of(alloc: Global, text: &[u8]) -> Result<Cut, AllocError> {
-    match read_code(alloc, text) {
-        Ok(code) => read_cut(alloc, &code),
+pub(crate) fn cut_of(isa: InstructionSet, alloc: Global, text: &[u8]) -> Result<Cut, AllocError> {
+    match read_code(isa, alloc, text) {
+        Ok(code) => read_cut(isa, alloc, &code),
         Err(AdoptFault::Memory) => Err(AllocError),
-        Err(_) => read_cut(alloc, text),
+        Err(_) => read_cut(isa, alloc, text),
     }
 }
 
@@ -26,19 +27,20 @@ pub(crate) fn cut_of(alloc: Global, text: &[u8]) -> Result<Cut, AllocError> {
 ///
 /// `AllocError` where memory ran out.
 pub fn explain(
+    isa: InstructionSet,
     alloc: Global,
     name: &[u8],
     text: &[u8],
     finding: Finding,
 ) -> Result<Vec<u8>, AllocError>
-    ensures { IfOk result (λ out. Explains name.now text.now finding out.items) }
+    ensures { IfOk result (λ out. Explains isa name.now text.now finding out.items) }
 {
     let mut out = Vec::new(alloc);
     if finding.line == 0 {
         return Ok(out);
     }
     let line = line_at(text, finding.line);
-    let place = place_in(alloc, finding.what, line)?;
+    let place = place_in(isa, alloc, finding.what, line)?;
     push_picture(
         &mut out,
         name,
@@ -48,7 +50,7 @@ pub fn explain(
         finding.what.sentence(),
     )?;
     let serial = without_bars(alloc, line)?;
-    let cut = cut_of(alloc, text)?;
-    push_help(&mut out, alloc, text, &serial, finding, place, &cut)?;
+    let cut = cut_of(isa, alloc, text)?;
+    push_help(isa, &mut out, alloc, text, &serial, finding, place, &cut)?;
     Ok(out)
 }

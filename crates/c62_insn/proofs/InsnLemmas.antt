@@ -19,6 +19,7 @@ use Rattle.c62_insn.specs.declared.insn.Insn.{Insn}
 use Rattle.c62_insn.specs.declared.fault.FormFault.TheVariants.{NoUnit, ConstantRange, TwoCrossed, BadSide}
 use Rattle.c62_insn.specs.declared.fault.FormFault.TheVariants.{BadCondition}
 use Rattle.c62_op.specs.Takes.{takes, same_reg, is_written}
+use Rattle.c62_op.specs.declared.set.InstructionSet.TheVariants.{Full}
 use Rattle.c62_insn.specs.Fault.{form_fault, bad_condition, constant_out_of_range, two_crossed, has_misplaced}
 use Rattle.c62_insn.specs.Fault.{is_other_side, bad_side, no_unit}
 use Rattle.c62_op.specs.Shape.{side_of, delay_of, is_load, is_store, reads_destination, changes_base, offset_reads}
@@ -34,8 +35,8 @@ use Rattle.c62_op.proofs.SideLemmas.{takes_on_side}
 pub has_written_unit : (insn : Insn)
     → (u : FunctionalUnit) × (takes (op_of insn) (operands_of insn) u ≡ true)
     × ((unit_of insn ≡ None) ⊎ (unit_of insn ≡ Some u))
-has_written_unit insn = some_unit insn.op insn.operands insn.unit
-    (faultless insn.op insn.operands insn.cond insn.unit insn.well_formed).taken
+has_written_unit insn = some_unit Full insn.op insn.operands insn.unit
+    (faultless Full insn.op insn.operands insn.cond insn.unit insn.well_formed).taken
 
 pub has_unit : (insn : Insn) → (u : FunctionalUnit) × (takes (op_of insn) (operands_of insn) u ≡ true)
 has_unit insn = let found = has_written_unit insn in (found.0, found.1)
@@ -55,11 +56,13 @@ own_side op operands u (Some side) h e = rw (takes_on_side op operands u side e 
 pub faultless_on : (insn : Insn) (u : FunctionalUnit) → takes (op_of insn) (operands_of insn) u ≡ true
     → form_fault (op_of insn) (operands_of insn) (cond_of insn) (Some u) ≡ None
 faultless_on insn u h =
-    let f = faultless insn.op insn.operands insn.cond insn.unit insn.well_formed in
-    let own = or_parts (has_misplaced insn.op insn.operands) (is_other_side (side_of insn.operands) insn.unit) f.sides
+    let f = faultless Full insn.op insn.operands insn.cond insn.unit insn.well_formed in
+    let own = or_parts (has_misplaced Full insn.op insn.operands)
+    (is_other_side (side_of insn.operands) insn.unit) f.sides
     in
-    no_fault (bad_condition insn.cond) (constant_out_of_range insn.op insn.operands) (two_crossed insn.op insn.operands)
-    (bad_side insn.op insn.operands (Some u)) (no_unit insn.op insn.operands (Some u)) f.condition f.constants
+    no_fault (bad_condition insn.cond) (constant_out_of_range Full insn.op insn.operands)
+    (two_crossed insn.op insn.operands)
+    (bad_side Full insn.op insn.operands (Some u)) (no_unit Full insn.op insn.operands (Some u)) f.condition f.constants
     f.crossing
     (or_from _ _ own.0 (own_side insn.op insn.operands u (side_of insn.operands) h refl)) (not_from_true _ h)
 

@@ -1,7 +1,7 @@
 //! Instructions.
 
 ghost use Rattle.std.specs.Prelude.{◌≡◌, ◌↔◌, IsOk, IfOk, IfErr, IfSome, IsTrue, Some, None};
-ghost use Rattle.c62_insn.specs.Fault.{form_fault};
+ghost use Rattle.c62_insn.specs.Fault.{fault_in, form_fault};
 ghost use Rattle.c62_op.specs.Takes.{is_written};
 
 use crate::action::{Action, act, word};
@@ -9,7 +9,7 @@ use crate::effect::{Access, Effect, Inputs, Target};
 use crate::fault::{FormFault, find_fault};
 use crate::unit_set::{UnitSet, units_of};
 use arrayvec::ArrayVec;
-use c62_op::{Cond, Offset, Op, Operands, Reg, Side, Unit, unit_takes, word_of};
+use c62_op::{Cond, InstructionSet, Offset, Op, Operands, Reg, Side, Unit, unit_takes, word_of};
 
 /// An instruction: an operation with operands that some unit takes, a condition or none, and the
 /// unit that was written, or none. It has no form fault.
@@ -64,7 +64,7 @@ impl Insn {
     ghost use Rattle.c62_insn.specs.Action.{word_at, runs_with, values_where, access_where, target_where, IsActionOf};
     ghost use Rattle.c62_op.specs.Shape.{reads_of, writes_of, delay_of, data_path_of, crosses_to};
 
-    /// The instruction of these parts.
+    /// The instruction of these parts, by all forms of the instruction table.
     ///
     /// # Errors
     ///
@@ -84,7 +84,28 @@ impl Insn {
         ensures parts { IfOk result (HasParts op operands cond unit) }
         ensures fault { IfErr result (λ fault. form_fault op operands cond unit ≡ Some fault) }
     {
-        match find_fault(op, operands, cond, unit) {
+        Insn::new_in(InstructionSet::Full, op, operands, cond, unit)
+    }
+
+    /// The instruction of these parts, where the set has it.
+    ///
+    /// # Errors
+    ///
+    /// The first of its form faults by the forms of the set, in the order of [`Insn::new`].
+    #[inline(always)]
+    #[tactic(auto, using(crate::proofs::TakenLemmas::whole))]
+    pub fn new_in(
+        set: InstructionSet,
+        op: Op,
+        operands: Operands,
+        cond: Option<Cond>,
+        unit: Option<Unit>,
+    ) -> Result<Insn, FormFault>
+        ensures made { IsOk result ↔ (fault_in set op operands cond unit ≡ None) }
+        ensures parts { IfOk result (HasParts op operands cond unit) }
+        ensures fault { IfErr result (λ fault. fault_in set op operands cond unit ≡ Some fault) }
+    {
+        match find_fault(set, op, operands, cond, unit) {
             Some(fault) => Err(fault),
             None => Ok(Insn {
                 op,

@@ -1,5 +1,6 @@
 //! Worked rows, whose answers come from the processor's manual.
 
+mod full;
 mod table;
 
 use crate::expect::{equal, equal_in};
@@ -59,6 +60,11 @@ const B4: Reg = Reg {
     number: 4,
 };
 
+const B14: Reg = Reg {
+    side: Side::B,
+    number: 14,
+};
+
 const L1: Unit = Unit {
     letter: Letter::L,
     side: Side::A,
@@ -81,6 +87,11 @@ const D1: Unit = Unit {
 
 const L2: Unit = Unit {
     letter: Letter::L,
+    side: Side::B,
+};
+
+const S2: Unit = Unit {
+    letter: Letter::S,
     side: Side::B,
 };
 
@@ -403,7 +414,8 @@ fn judges_sides(rt: HostRuntime) {
         (Op::Ldw, across, None, side),
         (Op::Ldw, other_file, None, None),
         (Op::Stw, other_file, None, None),
-        (Op::B, Operands::Register(A3), None, side),
+        (Op::B, Operands::Register(A3), None, None),
+        (Op::B, Operands::Register(A3), Some(S1), side),
         (Op::B, Operands::Block(0), Some(S1), None),
         (Op::Add, Operands::Three(A1, B1, A2), Some(L2), side),
         (Op::Add, Operands::Three(A1, B1, A2), Some(D1), no),

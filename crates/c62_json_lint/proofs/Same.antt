@@ -11,9 +11,10 @@ use Rattle.c62_lint.proofs.FaultLemmas.{first_refusal}
 use Rattle.c62_explain.specs.Picture.{few}
 use Rattle.c62_explain.specs.declared.placed.PlacedFault.{PlacedFault}
 use Rattle.c62_json_lint.specs.Laws.{DocumentsTellTheLines, FaultyIsRefused}
+use Rattle.c62_op.specs.declared.set.InstructionSet.{InstructionSet}
 
-pub tell_the_lines : (most : ℕ) (file text : List ℕ) → DocumentsTellTheLines most file text
-tell_the_lines most file text out told faulty lines is = record {
+pub tell_the_lines : (isa : InstructionSet) (most : ℕ) (file text : List ℕ) → DocumentsTellTheLines isa most file text
+tell_the_lines isa most file text out told faulty lines is = record {
   lines = lines.placed;
   faults = is.faults;
   says = lines.says;
@@ -32,7 +33,8 @@ some_told (fault ∷ faults) [] (suc n) r some are first = absurd cc
 some_told (fault ∷ faults) (refusal ∷ refusals) (suc n) (Ok x) some are first = absurd cc
 some_told (fault ∷ faults) (refusal ∷ refusals) (suc n) (Err e) some are first = grind (arith, nat_tests)
 
-pub faulty_is_refused : (most : ℕ) (file text : List ℕ) → FaultyIsRefused most file text
-faulty_is_refused most file text some told faulty is =
+pub faulty_is_refused : (isa : InstructionSet) (most : ℕ) (file text : List ℕ) → FaultyIsRefused isa most file text
+faulty_is_refused isa most file text some told faulty is =
     let least : 1 ≤ few most = omega (arith, some) in
-    is.some ∙ some_told is.faults (faults_in text) (few most) (program_in text) least is.are.faults (first_refusal text)
+    is.some ∙ some_told is.faults (faults_in isa text) (few most) (program_in isa text) least is.are.faults
+    (first_refusal isa text)

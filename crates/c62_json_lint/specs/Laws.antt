@@ -8,6 +8,7 @@ use Rattle.c62_explain.specs.Placed.{LintsPlaced, placed_line}
 use Rattle.c62_explain.specs.declared.placed.PlacedFault.{PlacedFault}
 use Rattle.c62_json_lint.specs.Faults.{faults_members}
 use Rattle.c62_json_lint.specs.Linted.{IsSerialDocument}
+use Rattle.c62_op.specs.declared.set.InstructionSet.{InstructionSet}
 
 -- lines and a document tell faults of the same lines and causes, in the same order
 pub record TellTheSame (file out told : List ℕ) : Type 0 where
@@ -18,11 +19,11 @@ pub record TellTheSame (file out told : List ℕ) : Type 0 where
   pub same : map (λ placed. refusal_of placed.fault) lines ≡ map (λ placed. refusal_of placed.fault) faults
 
 -- so do the lines that `lint` prints of a serial text and its document
-abbrev pub DocumentsTellTheLines : (most : ℕ) → (file text : List ℕ) → Type 0
-DocumentsTellTheLines most file text =
-    (out told : List ℕ) (faulty : Bool) → LintsPlaced file text most out → IsSerialDocument most file text told faulty → TellTheSame file out told
+abbrev pub DocumentsTellTheLines : InstructionSet → (most : ℕ) → (file text : List ℕ) → Type 0
+DocumentsTellTheLines isa most file text =
+    (out told : List ℕ) (faulty : Bool) → LintsPlaced isa file text most out → IsSerialDocument isa most file text told faulty → TellTheSame file out told
 
 -- a serial text has a fault exactly where it is refused
-abbrev pub FaultyIsRefused : (most : ℕ) → (file text : List ℕ) → Type 0
-FaultyIsRefused most file text =
-    1 ≤ most → (told : List ℕ) (faulty : Bool) → IsSerialDocument most file text told faulty → faulty ≡ is_err (program_in text)
+abbrev pub FaultyIsRefused : InstructionSet → (most : ℕ) → (file text : List ℕ) → Type 0
+FaultyIsRefused isa most file text =
+    1 ≤ most → (told : List ℕ) (faulty : Bool) → IsSerialDocument isa most file text told faulty → faulty ≡ is_err (program_in isa text)

@@ -6,24 +6,25 @@ use Rattle.c62_explain.specs.declared.placed.PlacedFault.{PlacedFault}
 use Rattle.c62_explain_packets.specs.Remarks.{AreListingRemarks, AreRemarks}
 use Rattle.c62_explain_packets.specs.declared.remarks.Remarks.{Remarks}
 use Rattle.c62_json_lint.specs.Faults.{faults_members, remarks_members}
+use Rattle.c62_op.specs.declared.set.InstructionSet.{InstructionSet}
 
 -- a serial text's first faults, at most so many, and whether it has one
-pub record IsSerialDocument (most : ℕ) (file text told : List ℕ) (faulty : Bool) : Type 0 where
+pub record IsSerialDocument (isa : InstructionSet) (most : ℕ) (file text told : List ℕ) (faulty : Bool) : Type 0 where
   pub faults : List PlacedFault
-  pub are : ArePlaced text most faults
+  pub are : ArePlaced isa text most faults
   pub says : told ≡ document (codes "lint") (faults_members file faults)
   pub some : faulty ≡ nat_lt 0 (length faults)
 
 -- what is found in packets
-pub record IsPacketsDocument (most : ℕ) (file text told : List ℕ) (faulty : Bool) : Type 0 where
+pub record IsPacketsDocument (isa : InstructionSet) (most : ℕ) (file text told : List ℕ) (faulty : Bool) : Type 0 where
   pub remarks : Remarks
-  pub are : AreRemarks most text remarks
+  pub are : AreRemarks isa most text remarks
   pub says : told ≡ document (codes "lint") (remarks_members file remarks)
   pub some : faulty ≡ remarks.faulty
 
 -- and in a listing
-pub record IsListingDocument (file text told : List ℕ) (faulty : Bool) : Type 0 where
+pub record IsListingDocument (isa : InstructionSet) (file text told : List ℕ) (faulty : Bool) : Type 0 where
   pub remarks : Remarks
-  pub are : AreListingRemarks text remarks
+  pub are : AreListingRemarks isa text remarks
   pub says : told ≡ document (codes "lint") (remarks_members file remarks)
   pub some : faulty ≡ remarks.faulty

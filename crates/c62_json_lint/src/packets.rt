@@ -10,6 +10,7 @@ use crate::document::LintedDocument;
 use crate::fault::{push_finding, push_read};
 use c62_explain_packets::{PlacedFinding, PlacedRead, Remarks, listing_remarks, packets_remarks};
 use c62_json::{begin, end};
+use c62_op::InstructionSet;
 use json::Writer;
 use std::alloc::{AllocError, Global};
 
@@ -76,14 +77,15 @@ fn remarks_text(alloc: Global, file: &[u8], remarks: &Remarks) -> Result<Vec<u8>
 ///
 /// `AllocError` where memory ran out.
 pub fn packets_document(
+    isa: InstructionSet,
     alloc: Global,
     file: &[u8],
     text: &[u8],
     most: usize,
 ) -> Result<LintedDocument, AllocError>
-    ensures { IfOk result (λ linted. IsPacketsDocument most file.now text.now linted.text.items linted.faulty) }
+    ensures { IfOk result (λ linted. IsPacketsDocument isa most file.now text.now linted.text.items linted.faulty) }
 {
-    let remarks = packets_remarks(alloc, text, most)?;
+    let remarks = packets_remarks(isa, alloc, text, most)?;
     let text = remarks_text(alloc, file, &remarks)?;
     let faulty = remarks.faulty;
     Ok(LintedDocument { text, faulty })
@@ -95,13 +97,14 @@ pub fn packets_document(
 ///
 /// `AllocError` where memory ran out.
 pub fn listing_document(
+    isa: InstructionSet,
     alloc: Global,
     file: &[u8],
     text: &[u8],
 ) -> Result<LintedDocument, AllocError>
-    ensures { IfOk result (λ linted. IsListingDocument file.now text.now linted.text.items linted.faulty) }
+    ensures { IfOk result (λ linted. IsListingDocument isa file.now text.now linted.text.items linted.faulty) }
 {
-    let remarks = listing_remarks(alloc, text)?;
+    let remarks = listing_remarks(isa, alloc, text)?;
     let text = remarks_text(alloc, file, &remarks)?;
     let faulty = remarks.faulty;
     Ok(LintedDocument { text, faulty })

@@ -10,6 +10,7 @@ use crate::document::LintedDocument;
 use crate::fault::push_fault;
 use c62_explain::{PlacedFault, placed_faults};
 use c62_json::{begin, end};
+use c62_op::InstructionSet;
 use json::Writer;
 use std::alloc::{AllocError, Global};
 
@@ -60,15 +61,16 @@ fn faults_text(alloc: Global, file: &[u8], all: &[PlacedFault]) -> Result<Vec<u8
 ///
 /// `AllocError` where memory ran out.
 pub fn serial_document(
+    isa: InstructionSet,
     alloc: Global,
     file: &[u8],
     text: &[u8],
     most: usize,
 ) -> Result<LintedDocument, AllocError>
     requires { 1 ≤ most }
-    ensures { IfOk result (λ linted. IsSerialDocument most file.now text.now linted.text.items linted.faulty) }
+    ensures { IfOk result (λ linted. IsSerialDocument isa most file.now text.now linted.text.items linted.faulty) }
 {
-    let all = placed_faults(alloc, text, most)?;
+    let all = placed_faults(isa, alloc, text, most)?;
     let text = faults_text(alloc, file, &all)?;
     let faulty = !all.is_empty();
     Ok(LintedDocument { text, faulty })

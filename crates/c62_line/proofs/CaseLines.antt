@@ -17,6 +17,7 @@ use Rattle.c62_token.proofs.TokenLemmas.{on_test}
 use Rattle.c62_token.proofs.CaseTokens.{low_byte, byte_low, test_low, lowered, low, small_low, spells_low, length_low}
 use Rattle.c62_token.proofs.CaseTokens.{all_low, begins_low, label_low}
 use Rattle.c62_token.proofs.CaseTokens.{lows, tokens_low, kinds_low}
+use Rattle.c62_op.specs.declared.set.InstructionSet.{InstructionSet}
 
 -- ---- lines that are the same but for case
 
@@ -31,9 +32,9 @@ same_low before line other same = absurd same
 
 -- ---- mnemonics
 
-mnemonic_low : (w : Word) → mnemonic_named (low w) ≡ mnemonic_named w
+mnemonic_low : (isa : InstructionSet) (w : Word) → mnemonic_named isa (low w) ≡ mnemonic_named isa w
 unfolding mnemonic_named operation_named pseudo_named
-mnemonic_low w = simp (small_low false w)
+mnemonic_low isa w = simp (small_low false w)
 
 -- ---- a thing found, and what stands behind it
 
@@ -76,14 +77,15 @@ abbrev small : Result Says Cause → Result Says Cause
 small (Ok says) = Ok (small_says says)
 small (Err cause) = Err cause
 
-behind_unit_low : (mnemonic : Mnemonic) (cond : Option Condition) (written : Option WrittenUnit) (ws : List Word)
-    → small (behind_unit mnemonic cond written (lows ws)) ≡ small (behind_unit mnemonic cond written ws)
+behind_unit_low : (isa : InstructionSet) (mnemonic : Mnemonic) (cond : Option Condition) (written : Option WrittenUnit)
+    (ws : List Word)
+    → small (behind_unit isa mnemonic cond written (lows ws)) ≡ small (behind_unit isa mnemonic cond written ws)
 unfolding behind_unit
-behind_unit_low mnemonic cond written ws = grind (arith, kinds_low, label_low, small_low false)
+behind_unit_low isa mnemonic cond written ws = grind (arith, kinds_low, label_low, small_low false)
 
-rest_low : (ws : List Word) → small (rest_says (lows ws)) ≡ small (rest_says ws)
+rest_low : (isa : InstructionSet) (ws : List Word) → small (rest_says isa (lows ws)) ≡ small (rest_says isa ws)
 unfolding rest_says instruction_of
-rest_low ws = grind (arith, begins_low is_dot refl, condition_low, mnemonic_low, unit_low, behind_unit_low)
+rest_low isa ws = grind (arith, begins_low is_dot refl, condition_low, mnemonic_low isa, unit_low, behind_unit_low isa)
 
 -- ---- the head of a line
 
@@ -113,37 +115,42 @@ head_is_low line =
 
 -- ---- the line
 
-rest_small : (label : Option Word) (ws : List Word)
-    → small_labels (with_rest (option_map low label) (rest_says (lows ws))) ≡ small_labels
-    (with_rest label (rest_says ws))
-rest_small label ws = grind (arith, rest_low ws, small_low false)
+rest_small : (isa : InstructionSet) (label : Option Word) (ws : List Word)
+    → small_labels (with_rest (option_map low label) (rest_says isa (lows ws))) ≡ small_labels
+    (with_rest label (rest_says isa ws))
+rest_small isa label ws = grind (arith, rest_low isa ws, small_low false)
 
-line_low : (line : List ℕ) → small_labels (line_of (low line)) ≡ small_labels (line_of line)
+line_low : (isa : InstructionSet) (line : List ℕ)
+    → small_labels (line_of isa (low line)) ≡ small_labels (line_of isa line)
 unfolding line_of
-line_low line = rw (head_is_low line) (grind (arith, rest_small))
+line_low isa line = rw (head_is_low line) (grind (arith, rest_small isa))
 
-line_same : (line other : List ℕ) → IsRecased 32 line other → small_labels (line_of line) ≡ small_labels (line_of other)
-line_same line other same = cc (line_low line, line_low other, same_low 32 line other same)
+line_same : (isa : InstructionSet) (line other : List ℕ) → IsRecased 32 line other
+    → small_labels (line_of isa line) ≡ small_labels (line_of isa other)
+line_same isa line other same = cc (line_low isa line, line_low isa other, same_low 32 line other same)
 
-pub case_nothing : (line other : List ℕ) → IsRecased 32 line other → CaseSaysNothing line other
-case_nothing line other same = grind (arith, line_same line other same)
+pub case_nothing : (isa : InstructionSet) (line other : List ℕ) → IsRecased 32 line other
+    → CaseSaysNothing isa line other
+case_nothing isa line other same = grind (arith, line_same isa line other same)
 
 -- ---- what is said with the same labels
 
-said_same : (line other : List ℕ) (head front : Head) → head_of line ≡ head → head_of other ≡ front
-    → small_labels (with_head head) ≡ small_labels (with_head front) → label_field line ≡ label_field other
-    → target_in (with_head head) ≡ target_in (with_head front) → with_head head ≡ with_head front
-said_same line other (Ok (label, ws)) (Ok (name, vs)) e f small field targets = grind
+said_same : (isa : InstructionSet) (line other : List ℕ) (head front : Head) → head_of line ≡ head
+    → head_of other ≡ front
+    → small_labels (with_head isa head) ≡ small_labels (with_head isa front) → label_field line ≡ label_field other
+    → target_in (with_head isa head) ≡ target_in (with_head isa front) → with_head isa head ≡ with_head isa front
+said_same isa line other (Ok (label, ws)) (Ok (name, vs)) e f small field targets = grind
     (arith, field_is line label ws e, field_is other name vs f)
-said_same line other head front e f small field targets = grind arith
+said_same isa line other head front e f small field targets = grind arith
 
 -- lines that differ in case only have the same fault before what is said, and say the same where they have the same
 -- labels
 pub head_same : (line other : List ℕ) → IsRecased 32 line other → fault_in (head_of line) ≡ fault_in (head_of other)
 head_same line other same = grind (arith, head_is_low line, head_is_low other, same_low 32 line other same)
 
-pub line_as_other : (line other : List ℕ) → IsRecased 32 line other → label_field line ≡ label_field other
-    → target_in (line_of line) ≡ target_in (line_of other) → line_of line ≡ line_of other
+pub line_as_other : (isa : InstructionSet) (line other : List ℕ) → IsRecased 32 line other
+    → label_field line ≡ label_field other
+    → target_in (line_of isa line) ≡ target_in (line_of isa other) → line_of isa line ≡ line_of isa other
 unfolding line_of
-line_as_other line other same field targets = said_same line other (head_of line) (head_of other) refl refl
-    (line_same line other same) field targets
+line_as_other isa line other same field targets = said_same isa line other (head_of line) (head_of other) refl refl
+    (line_same isa line other same) field targets

@@ -7,6 +7,7 @@ use Rattle.c62_line.specs.Line.{head_of, label_front, line_of, rest_says, label_
 use Rattle.c62_line.specs.Laws.{CommentSaysNothing, IsReadable, StarSaysNothing}
 use Rattle.c62_token.proofs.TokenLaws.{tokens_before_comment}
 use Rattle.c62_line.proofs.LabelFields.{star_field}
+use Rattle.c62_op.specs.declared.set.InstructionSet.{InstructionSet}
 
 -- ---- a star
 
@@ -14,9 +15,10 @@ pub star_head : (line : List ℕ) → IsReadable line → begins is_star line �
 unfolding head_of
 star_head line readable star = grind (arith, nat_tests)
 
-pub star_nothing : (line : List ℕ) → IsReadable line → IsTrue (begins is_star line) → StarSaysNothing line
+pub star_nothing : (isa : InstructionSet) (line : List ℕ) → IsReadable line → IsTrue (begins is_star line)
+    → StarSaysNothing isa line
 unfolding line_of rest_says
-star_nothing line readable star = (rw (star_head line readable star) refl, star_field line star)
+star_nothing isa line readable star = (rw (star_head line readable star) refl, star_field line star)
 
 -- ---- behind a semicolon
 
@@ -29,10 +31,11 @@ unfolding head_of
 comment_head line rest readable = grind
     (arith, nat_tests, front_readable line rest readable, tokens_before_comment line rest)
 
-pub comment_nothing : (line rest : List ℕ) → IsReadable (line ++ 59 ∷ rest) → CommentSaysNothing line rest
+pub comment_nothing : (isa : InstructionSet) (line rest : List ℕ) → IsReadable (line ++ 59 ∷ rest)
+    → CommentSaysNothing isa line rest
 unfolding line_of label_field
-comment_nothing line rest readable = (
-  ap with_head (comment_head line rest readable),
+comment_nothing isa line rest readable = (
+  ap (with_head isa) (comment_head line rest readable),
   ap (λ (words : List Word). (label_front words).0)
       (tokens_before_comment line rest),
 )

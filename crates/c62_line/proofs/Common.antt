@@ -1,5 +1,5 @@
 -- What several proofs of this crate use of the standard library and of the definitions.
-pub use Rattle.c62_op.specs.Takes.{has_kind}
+pub use Rattle.c62_op.specs.Takes.{has_kind, has_kind_in}
 pub use Rattle.c62_insn.specs.Insn.{op_of}
 pub use Rattle.c62_op.specs.Shape.{crosses_to, is_branch}
 pub use Rattle.c62_op.specs.Table.{mnemonic_of}
@@ -30,7 +30,7 @@ pub use Rattle.c62_line.specs.declared.operand.Address.{Address}
 pub use Rattle.c62_line.specs.declared.unit.Mark.{Mark}
 pub use Rattle.c62_line.specs.declared.unit.Mark.TheVariants.{Path, Cross, Plain}
 pub use Rattle.c62_line.specs.declared.unit.WrittenUnit.{WrittenUnit}
-pub use Rattle.c62_token.specs.Kind.{Word, kinds_of}
+pub use Rattle.c62_token.specs.Kind.{Word, kinds_of, kinds_in}
 pub use Rattle.c62_token.specs.Number.{spells}
 pub use Rattle.c62_token.specs.Token.{tokens, begins, is_word_byte, is_allowed, is_blank, grow, words_left, put_back}
 pub use Rattle.c62_token.specs.declared.kind.Kind.{Kind}

@@ -8,6 +8,7 @@ use Rattle.c62_token.proofs.TokenLemmas.{either, on_test}
 use Rattle.c62_line.specs.declared.limits.TheConstants.{MOST_LINE}
 use Rattle.c62_line.specs.Line.{head_of, label_front, line_of, rest_says, label_field}
 use Rattle.c62_token.proofs.SpelledTokens.{is_text}
+use Rattle.c62_op.specs.declared.set.InstructionSet.{InstructionSet}
 
 -- ---- lines without a colon
 
@@ -45,11 +46,11 @@ unfolding head_of
 head_plain line allowed short no_star no_bars none =
     rw (allowed, le-ltb MOST_LINE (length line) short, no_star, no_bars, no_label (tokens line) none, none) refl
 
-pub line_by_head : (line : List ℕ) (label : Option Word) (words : List Word) (says : Says)
+pub line_by_head : (isa : InstructionSet) (line : List ℕ) (label : Option Word) (words : List Word) (says : Says)
     → head_of line ≡ Ok (label, words)
-    → rest_says words ≡ Ok says → line_of line ≡ Ok (label, says)
+    → rest_says isa words ≡ Ok says → line_of isa line ≡ Ok (label, says)
 unfolding line_of
-line_by_head line label words says head rest = rw (head, rest) refl
+line_by_head isa line label words says head rest = rw (head, rest) refl
 
 pub plain_field : (line : List ℕ) → list_any (λ b. eqb b 58) line ≡ false → label_field line ≡ None
 unfolding label_field

@@ -12,10 +12,14 @@ use Rattle.c62_op.specs.declared.operands.Offset.TheVariants.{Constant as ByCons
 use Rattle.c62_insn.specs.Spelling.{is_base_alone, offset_spelling, sign_of, step_of, with_commas}
 use Rattle.c62_op.proofs.FormLemmas.{is_narrow, constants_of}
 use Rattle.c62_token.specs.declared.kind.Kind.TheVariants.{Register}
-use Rattle.c62_token.specs.Kind.{kind_of, mark_of, single_mark}
+use Rattle.c62_token.specs.Kind.{kind_of, mark_of, single_mark, read_in}
+use Rattle.std.specs.Prelude.{map}
+use Rattle.std.proofs.lemmas.List.{map-append}
 use Rattle.c62_line.specs.Operand.{address_front, operands_of, with_offset}
 use Rattle.c62_token.proofs.SpelledTokens.{IsPiece, both, mark_piece, more, weaker, word_end}
 use Rattle.c62_token.proofs.SpelledNumbers.{number_piece, register_piece}
+use Rattle.c62_op.specs.declared.set.InstructionSet.{InstructionSet}
+use Rattle.c62_op.specs.declared.set.InstructionSet.TheVariants.{Core, Full}
 
 -- ---- addresses
 
@@ -109,25 +113,49 @@ pub access_piece : (store : Bool) (reg : Reg) (text : List ℕ) (words : List Wo
 access_piece true reg text words kinds piece = (_, more (register_piece reg) piece)
 access_piece false reg text words kinds piece = (_, more piece (register_piece reg))
 
-plus_back : (store : Bool) (reg base : Reg) (k : ℤ) (alone : Bool) → int_eq k (pos 0) ≡ alone
-    → operands_of store (access_kinds store reg (address_kinds alone base Plus (ByConstant k))) ≡ Some
+plus_back : (isa : InstructionSet) (store : Bool) (reg base : Reg) (k : ℤ) (alone : Bool) → int_eq k (pos 0) ≡ alone
+    → operands_of isa store (access_kinds store reg (address_kinds alone base Plus (ByConstant k))) ≡ Some
     (Access reg base Plus (ByConstant k))
 unfolding operands_of address_front with_offset kind_of mark_of single_mark
-plus_back true reg base k true e = ap (λ (z : ℤ). Some (Access reg base Plus (ByConstant z)))
+plus_back Core true reg base k true e = ap (λ (z : ℤ). Some (Access reg base Plus (ByConstant z)))
     (sym ((Decides-int_eq k (pos 0)).0 e))
-plus_back false reg base k true e = ap (λ (z : ℤ). Some (Access reg base Plus (ByConstant z)))
+plus_back Core false reg base k true e = ap (λ (z : ℤ). Some (Access reg base Plus (ByConstant z)))
     (sym ((Decides-int_eq k (pos 0)).0 e))
-plus_back true reg base k false e = refl
-plus_back false reg base k false e = refl
+plus_back Full true reg base k true e = ap (λ (z : ℤ). Some (Access reg base Plus (ByConstant z)))
+    (sym ((Decides-int_eq k (pos 0)).0 e))
+plus_back Full false reg base k true e = ap (λ (z : ℤ). Some (Access reg base Plus (ByConstant z)))
+    (sym ((Decides-int_eq k (pos 0)).0 e))
+plus_back isa true reg base k false e = refl
+plus_back isa false reg base k false e = refl
 
 -- the operands of a load or store read as they are
-pub access_back : (store : Bool) (reg base : Reg) (form : AddressForm) (offset : Offset)
-    → operands_of store (access_kinds store reg (address_kinds (is_base_alone form offset) base form offset)) ≡ Some
+pub access_back : (isa : InstructionSet) (store : Bool) (reg base : Reg) (form : AddressForm) (offset : Offset)
+    → operands_of isa store (access_kinds store reg (address_kinds (is_base_alone form offset) base form offset)) ≡ Some
     (Access reg base form offset)
 unfolding operands_of address_front with_offset kind_of mark_of single_mark
-access_back true reg base Plus (ByConstant k) = plus_back true reg base k (int_eq k (pos 0)) refl
-access_back false reg base Plus (ByConstant k) = plus_back false reg base k (int_eq k (pos 0)) refl
-access_back true reg base Plus (ByRegister offset) = refl
-access_back false reg base Plus (ByRegister offset) = refl
-access_back _ reg base _ (ByConstant k) = refl
-access_back _ reg base _ (ByRegister offset) = refl
+access_back isa true reg base Plus (ByConstant k) = plus_back isa true reg base k (int_eq k (pos 0)) refl
+access_back isa false reg base Plus (ByConstant k) = plus_back isa false reg base k (int_eq k (pos 0)) refl
+access_back isa true reg base Plus (ByRegister offset) = refl
+access_back isa false reg base Plus (ByRegister offset) = refl
+access_back isa _ reg base _ (ByConstant k) = refl
+access_back isa _ reg base _ (ByRegister offset) = refl
+
+-- and have no other spelling
+offset_plain : (isa : InstructionSet) (offset : Offset) → read_in isa (offset_kind offset) ≡ offset_kind offset
+offset_plain isa (ByConstant k) = refl
+offset_plain isa (ByRegister reg) = refl
+
+address_plain : (isa : InstructionSet) (alone : Bool) (base : Reg) (form : AddressForm) (offset : Offset)
+    → map (read_in isa) (address_kinds alone base form offset) ≡ address_kinds alone base form offset
+unfolding kind_of mark_of single_mark
+address_plain isa true base form offset = refl
+address_plain isa false base Plus offset = rw (offset_plain isa offset) refl
+address_plain isa false base _ offset = rw (offset_plain isa offset) refl
+
+pub access_plain : (isa : InstructionSet) (store : Bool) (reg base : Reg) (form : AddressForm) (offset : Offset)
+    → map (read_in isa) (access_kinds store reg (address_kinds (is_base_alone form offset) base form offset))
+    ≡ access_kinds store
+    reg (address_kinds (is_base_alone form offset) base form offset)
+access_plain isa true reg base form offset = rw (address_plain isa (is_base_alone form offset) base form offset) refl
+access_plain isa false reg base form offset =
+    simp (map-append, address_plain isa (is_base_alone form offset) base form offset) refl

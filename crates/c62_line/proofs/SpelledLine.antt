@@ -10,10 +10,12 @@ use Rattle.c62_op.specs.declared.register.Cond.{Cond as Condition}
 use Rattle.c62_op.specs.declared.register.Unit.{Unit as FunctionalUnit}
 use Rattle.c62_insn.specs.Insn.{operands_of, cond_of}
 use Rattle.c62_insn.specs.Spelling.{condition_spelling, unit_spelling, path_spelling, side_digit, unit_letter}
-use Rattle.c62_insn.proofs.InsnLemmas.{faultless_on}
+use Rattle.c62_insn.proofs.TakenLemmas.{faultless_in}
+use Rattle.c62_op.proofs.TakenTests.{taken_in, taken_whole}
 use Rattle.c62_token.specs.declared.kind.Kind.TheVariants.{Not, Name}
 use Rattle.c62_line.specs.Mnemonic.{mnemonic_named}
 use Rattle.c62_token.specs.Number.{decimal_of, magnitude_of, number_of, register_of, signed_of}
+use Rattle.c62_token.specs.Number.{pointer_of, suffixed_of, signed_suffixed, suffixed_magnitude}
 use Rattle.c62_token.specs.Kind.{kind_of, mark_of, single_mark}
 use Rattle.c62_line.specs.Unit.{letter_of, mark_of as written_mark, side_numbered, unit_front, unit_split}
 use Rattle.c62_line.specs.Line.{condition_front, condition_of, instruction_of, line_of, rest_says}
@@ -26,6 +28,7 @@ use Rattle.c62_token.proofs.SpelledTokens.{tokens_behind, word_end, word_piece, 
 use Rattle.c62_token.proofs.SpelledNumbers.{register_kind, register_piece}
 use Rattle.c62_line.proofs.NameLemmas.{named}
 use Rattle.c62_line.proofs.SpelledOperands.{behind, mark_on, unit_written_fits}
+use Rattle.c62_op.specs.declared.set.InstructionSet.{InstructionSet}
 
 -- ---- a line without a label
 
@@ -57,17 +60,18 @@ blanks_no_star [] rest blank other = other
 blanks_no_star (b ∷ blanks) rest blank other = grind (arith, nat_tests)
 
 -- a line of blanks and a piece says what the tokens of the piece do
-pub piece_says : (blanks : List ℕ) {text : List ℕ} {words : List Word} {kinds : List Kind} {most : ℕ} (says : Says)
+pub piece_says : (isa : InstructionSet)
+    (blanks : List ℕ) {text : List ℕ} {words : List Word} {kinds : List Kind} {most : ℕ} (says : Says)
     → IsPiece word_end text words kinds most → most ≤ 155 → list_all is_blank blanks ≡ true → length blanks ≤ 100
     → begins is_star text ≡ false
-    → is_bars words ≡ false → rest_says words ≡ Ok says → line_of (blanks ++ text) ≡ Ok (None, says)
-piece_says blanks {text = text} {words = words} says piece few blank blanks_few star bars read =
+    → is_bars words ≡ false → rest_says isa words ≡ Ok says → line_of isa (blanks ++ text) ≡ Ok (None, says)
+piece_says isa blanks {text = text} {words = words} says piece few blank blanks_few star bars read =
     let line = both (blanks_piece blanks blank blanks_few) piece (λ rest end. tt) in
     let words_are = tokens_are line in
-    line_by_head (blanks ++ text) None (tokens (blanks ++ text)) says
+    line_by_head isa (blanks ++ text) None (tokens (blanks ++ text)) says
     (head_plain (blanks ++ text) (allowed_text (blanks ++ text) line.plain) (omega (arith, line.short))
     (blanks_no_star blanks text blank star)
-    (ap is_bars words_are ∙ bars) (no_colon (blanks ++ text) line.plain)) (ap rest_says words_are ∙ read)
+    (ap is_bars words_are ∙ bars) (no_colon (blanks ++ text) line.plain)) (ap (rest_says isa) words_are ∙ read)
 
 -- ---- mnemonics
 
@@ -75,10 +79,11 @@ record IsMnemonic (w : Word) : Type 0 where
   plain : BeginsPlainly w
   kind : kind_of w ≡ Name
   token : IsToken w
-  few : length w ≤ 6
+  few : length w ≤ 7
 
 mnemonic_is : (op : Op) → IsMnemonic (mnemonic_of op)
 unfolding kind_of mark_of single_mark register_of number_of signed_of magnitude_of decimal_of
+    pointer_of suffixed_of signed_suffixed suffixed_magnitude
 mnemonic_is Add = record {
   plain = word_plain _ (omega arith) refl;
   kind = refl;
@@ -167,37 +172,43 @@ front_back (Some c) op words = front_by c.reg c.negated (mnemonic_of op ∷ word
 -- ---- the line
 
 -- neither a dot nor bars nor a star stands first
-plain_first : (cond : Option Condition) (op : Op) (words : List Word) (rest : List ℕ)
+plain_first : (isa : InstructionSet) (cond : Option Condition) (op : Op) (words : List Word) (rest : List ℕ)
     → (begins is_star (condition_spelling cond ++ (mnemonic_of op ++ rest)) ≡ false)
     × (is_bars (condition_words cond ++ (mnemonic_of op ∷ words)) ≡ false)
-    × (rest_says (condition_words cond ++ (mnemonic_of op ∷ words)) ≡ instruction_of
+    × (rest_says isa (condition_words cond ++ (mnemonic_of op ∷ words)) ≡ instruction_of isa
     (condition_words cond ++ (mnemonic_of op ∷ words)))
 unfolding rest_says
-plain_first None op words rest = let plain = (mnemonic_is op).plain in
+plain_first isa None op words rest = let plain = (mnemonic_is op).plain in
     (plain.star rest, plain.bars words, rw plain.dot refl)
-plain_first (Some c) op words rest = (refl, refl, refl)
+plain_first isa (Some c) op words rest = (refl, refl, refl)
 
 regrouped : (c m u o : List ℕ)
     → c ++ m ++ codes " " ++ u ++ codes " " ++ o ≡ c ++ (m ++ (codes " " ++ (u ++ (codes " " ++ o))))
 regrouped c m u o = simp append_assoc refl
 
 -- the line that spells an instruction reads as it
-pub spelled_back : (name : ℕ → List ℕ) (insn : Insn) (unit : FunctionalUnit) (blanks : List ℕ)
-    → LineReadsBack name insn unit blanks
+pub spelled_back : (isa : InstructionSet) (name : ℕ → List ℕ) (insn : Insn) (unit : FunctionalUnit) (blanks : List ℕ)
+    → LineReadsBack isa name insn unit blanks
 unfolding instruction_of mnemonic_named
-spelled_back name insn unit blanks taking names blank few =
+spelled_back isa name insn unit blanks taking names blank few =
     let op : Op = op_of insn in
     let operands : Operands = operands_of insn in
     let cond : Option Condition = cond_of insn in
-    let here = behind name op operands cond unit taking names (faultless_on insn unit taking) in
+    let here = behind isa name op operands cond unit taking names (faultless_in isa insn unit taking) in
     let words : List Word = unit_spelling operands unit ∷ here.words in
-    let plain = plain_first cond op words _ in
+    let plain = plain_first isa cond op words _ in
     let unit_on = both (spelled_unit operands unit).piece (both blank_piece here.piece (λ rest end. tt))
     (λ rest end. refl) in
-    let mnemonic = word_piece (mnemonic_of op) Name 6 (mnemonic_is op).token (mnemonic_is op).kind (mnemonic_is op).few
+    let mnemonic = word_piece (mnemonic_of op) Name 7 (mnemonic_is op).token (mnemonic_is op).kind (mnemonic_is op).few
     in
     let line = both (condition_piece cond).1
     (both mnemonic (both blank_piece unit_on (λ rest end. tt)) (λ rest end. refl)) (λ rest end. tt) in
-    let fits = unit_written_fits op operands unit taking in
-    rw regrouped (piece_says blanks (says_on name insn unit) line (omega arith) blank few plain.0 plain.1
-    (plain.2 ∙ rw (front_back cond op words, named op, (spelled_unit operands unit).read here.words, fits) here.read))
+    let fits = unit_written_fits op operands unit (taken_whole isa op operands unit taking) in
+    rw regrouped (piece_says isa blanks (says_on name insn unit) line (omega arith) blank few plain.0 plain.1
+    (plain.2 ∙ rw (
+      front_back cond op words,
+      named op,
+      taken_in isa op operands unit taking,
+      (spelled_unit operands unit).read here.words,
+      fits,
+    ) here.read))

@@ -12,7 +12,7 @@ use Rattle.c62_insn.specs.declared.insn.Insn.{Insn}
 use Rattle.c62_op.specs.Meaning.{result_of}
 use Rattle.c62_insn.specs.Insn.{op_of, operands_of, cond_of}
 use Rattle.c62_insn.specs.Spelling.{spelling}
-use Rattle.c62_op.specs.Takes.{takes}
+use Rattle.c62_op.specs.Takes.{takes_in}
 use Rattle.c62_token.specs.Token.{is_allowed, is_blank}
 use Rattle.c62_token.specs.Number.{is_label}
 use Rattle.c62_token.specs.Kind.{Word}
@@ -20,6 +20,7 @@ use Rattle.c62_line.specs.declared.limits.TheConstants.{MOST_LINE}
 use Rattle.c62_line.specs.Mnemonic.{exchanged}
 use Rattle.c62_line.specs.Line.{Parts, Says, Nothing, Pause, Does, Jumps, line_of, label_field}
 use Rattle.c62_line.specs.declared.fault.Cause.{Cause}
+use Rattle.c62_op.specs.declared.set.InstructionSet.{InstructionSet}
 
 -- the parts of an instruction where this unit is written
 abbrev pub parts_on : Insn → FunctionalUnit → Parts
@@ -38,21 +39,21 @@ abbrev pub NamesTarget : (ℕ → Word) → Operands → Type 0
 NamesTarget name operands = (number : ℕ) → operands ≡ Block number → IsTrue (is_label (name number))
 
 -- the line that spells an instruction on a unit, with at most a hundred blanks before it, says that instruction on that unit
-abbrev pub LineReadsBack : (ℕ → Word) → Insn → FunctionalUnit → List ℕ → Type 0
-LineReadsBack name insn unit blanks =
-    IsTrue (takes (op_of insn) (operands_of insn) unit) → NamesTarget name (operands_of insn) → IsTrue (list_all is_blank blanks)
+abbrev pub LineReadsBack : InstructionSet → (ℕ → Word) → Insn → FunctionalUnit → List ℕ → Type 0
+LineReadsBack isa name insn unit blanks =
+    IsTrue (takes_in isa (op_of insn) (operands_of insn) unit) → NamesTarget name (operands_of insn) → IsTrue (list_all is_blank blanks)
     → length blanks ≤ 100
-    → line_of (blanks ++ spelling name insn unit) ≡ Ok (None, says_on name insn unit)
+    → line_of isa (blanks ++ spelling name insn unit) ≡ Ok (None, says_on name insn unit)
 
 -- the line that spells so many cycles without an instruction says them
-abbrev pub PauseReadsBack : ℕ → List ℕ → Type 0
-PauseReadsBack n blanks =
-    1 ≤ n → n ≤ 9 → IsTrue (list_all is_blank blanks) → length blanks ≤ 100 → line_of (blanks ++ (codes "NOP " ++ decimal n)) ≡ Ok (None, Pause n)
+abbrev pub PauseReadsBack : InstructionSet → ℕ → List ℕ → Type 0
+PauseReadsBack isa n blanks =
+    1 ≤ n → n ≤ 9 → IsTrue (list_all is_blank blanks) → length blanks ≤ 100 → line_of isa (blanks ++ (codes "NOP " ++ decimal n)) ≡ Ok (None, Pause n)
 
 -- a label and a colon are a line of that label, and say nothing else
-abbrev pub LabelReadsBack : Word → Type 0
-LabelReadsBack label =
-    IsTrue (is_label label) → (line_of (label ++ codes ":") ≡ Ok (Some label, Nothing)) × (label_field (label ++ codes ":") ≡ Some label)
+abbrev pub LabelReadsBack : InstructionSet → Word → Type 0
+LabelReadsBack isa label =
+    IsTrue (is_label label) → (line_of isa (label ++ codes ":") ≡ Ok (Some label, Nothing)) × (label_field (label ++ codes ":") ≡ Some label)
 
 -- ---- what says nothing
 
@@ -61,12 +62,12 @@ abbrev pub IsReadable : List ℕ → Type 0
 IsReadable line = IsTrue (list_all is_allowed line) × (length line ≤ MOST_LINE)
 
 -- a line that begins with `*` says nothing, and has no label
-abbrev pub StarSaysNothing : List ℕ → Type 0
-StarSaysNothing line = (line_of line ≡ Ok (None, Nothing)) × (label_field line ≡ None)
+abbrev pub StarSaysNothing : InstructionSet → List ℕ → Type 0
+StarSaysNothing isa line = (line_of isa line ≡ Ok (None, Nothing)) × (label_field line ≡ None)
 
 -- a comment behind a line changes neither what the line says nor its label
-abbrev pub CommentSaysNothing : List ℕ → List ℕ → Type 0
-CommentSaysNothing line rest = (line_of (line ++ 59 ∷ rest) ≡ line_of line) × (label_field (line ++ 59 ∷ rest) ≡ label_field line)
+abbrev pub CommentSaysNothing : InstructionSet → List ℕ → List ℕ → Type 0
+CommentSaysNothing isa line rest = (line_of isa (line ++ 59 ∷ rest) ≡ line_of isa line) × (label_field (line ++ 59 ∷ rest) ≡ label_field line)
 
 -- ---- case
 
@@ -91,10 +92,10 @@ small_labels (Ok (label, says)) = Ok (option_map in_small label, small_says says
 small_labels (Err cause) = Err cause
 
 -- case says nothing but in labels, which keep theirs
-abbrev pub CaseSaysNothing : List ℕ → List ℕ → Type 0
-CaseSaysNothing line other =
-    (small_labels (line_of line) ≡ small_labels (line_of other)) × ((parts : Parts) → line_of line ≡ Ok (None, Does parts)
-    → line_of other ≡ Ok (None, Does parts))
+abbrev pub CaseSaysNothing : InstructionSet → List ℕ → List ℕ → Type 0
+CaseSaysNothing isa line other =
+    (small_labels (line_of isa line) ≡ small_labels (line_of isa other)) × ((parts : Parts) → line_of isa line ≡ Ok (None, Does parts)
+    → line_of isa other ≡ Ok (None, Does parts))
 
 -- the label that a line branches to, if it says so
 abbrev pub target_in : Result (Option Word × Says) Cause → Option Word

@@ -15,7 +15,7 @@ use Rattle.c62_op.specs.declared.operands.Operands.TheVariants.{Block}
 use Rattle.c62_insn.specs.declared.insn.Insn.{Insn}
 use Rattle.c62_insn.specs.declared.fault.FormFault.{FormFault}
 use Rattle.c62_insn.specs.declared.fault.FormFault.TheVariants.{NoUnit, BadSide}
-use Rattle.c62_insn.specs.Fault.{form_fault}
+use Rattle.c62_insn.specs.Fault.{fault_in as form_fault_in}
 use Rattle.c62_insn.specs.Insn.{op_of, operands_of as written_operands, cond_of, unit_of}
 use Rattle.c62_op.specs.Shape.{crosses_to, data_path_of, is_branch, is_store}
 use Rattle.c62_op.specs.Takes.{same_side}
@@ -37,10 +37,11 @@ use Rattle.c62_token.specs.Token.{begins, is_allowed, tokens, words_left}
 use Rattle.c62_token.specs.Number.{spells, is_label}
 use Rattle.c62_token.specs.declared.kind.Kind.{Kind}
 use Rattle.c62_token.specs.declared.kind.Kind.TheVariants.{Open, Close, Not, Register, Number}
-use Rattle.c62_token.specs.Kind.{Word, kinds_of}
+use Rattle.c62_token.specs.Kind.{Word, kinds_of, kinds_in}
 use Rattle.c62_line.specs.Operand.{operands_of}
 use Rattle.c62_line.specs.Mnemonic.{mnemonic_named, stands_for, with_kind}
 use Rattle.c62_line.specs.Unit.{is_dot, unit_front, unit_fits}
+use Rattle.c62_op.specs.declared.set.InstructionSet.{InstructionSet}
 
 -- an instruction by its parts
 pub record Parts : Type 0 where
@@ -137,9 +138,9 @@ unfoldable pub condition_front : List Word → Option (Option Condition × List 
 condition_front words = option_map (before_rest words) (condition_of (kinds_of words))
 
 -- the mnemonic that stands first, and the tokens behind it
-abbrev pub mnemonic_front : List Word → Option (Mnemonic × List Word)
-mnemonic_front [] = None
-mnemonic_front (name ∷ words) = option_map (λ mnemonic. (mnemonic, words)) (mnemonic_named name)
+abbrev pub mnemonic_front : InstructionSet → List Word → Option (Mnemonic × List Word)
+mnemonic_front isa [] = None
+mnemonic_front isa (name ∷ words) = option_map (λ mnemonic. (mnemonic, words)) (mnemonic_named isa name)
 
 -- whether the unit, where one is written, may be written behind the mnemonic
 abbrev pub fits_behind : Mnemonic → Option WrittenUnit → Bool
@@ -176,8 +177,8 @@ abbrev pub standing : Mnemonic → Option WrittenUnit → Option Operands → Op
 standing mnemonic written operands = option_and_then (stands_for mnemonic (letter_written written)) operands
 
 -- the same, where the operation has such operands
-abbrev pub operands_written : Mnemonic → Option WrittenUnit → Option Operands → Option (Op × Operands)
-operands_written mnemonic written operands = option_and_then with_kind (standing mnemonic written operands)
+abbrev pub operands_written : InstructionSet → Mnemonic → Option WrittenUnit → Option Operands → Option (Op × Operands)
+operands_written isa mnemonic written operands = option_and_then (with_kind isa) (standing mnemonic written operands)
 
 abbrev pub cycles_of : Kind → Result Says Cause
 cycles_of (Number (pos n)) = if nat_le 1 n && nat_le n 9 then Ok (Pause n) else Err BadOperand
@@ -214,14 +215,14 @@ with_mark None mismarked = if mismarked then Some BadSide else None
 with_mark (Some NoUnit) mismarked = if mismarked then Some BadSide else Some NoUnit
 with_mark (Some fault) mismarked = Some fault
 
-unfoldable pub text_fault : Op → Operands → Option Condition → Option WrittenUnit → Option FormFault
-text_fault op operands cond written =
-    with_mark (form_fault op operands cond (unit_written written)) (is_mismarked written operands)
+unfoldable pub text_fault : InstructionSet → Op → Operands → Option Condition → Option WrittenUnit → Option FormFault
+text_fault isa op operands cond written =
+    with_mark (form_fault_in isa op operands cond (unit_written written)) (is_mismarked written operands)
 
 -- the fault that what is written has, where no instruction can be made of it
-abbrev pub IsFaultOfText : Op → Operands → Option Condition → Option WrittenUnit → Result Insn FormFault → Type 0
-IsFaultOfText op operands cond written made =
-    MatchResult made (λ insn. text_fault op operands cond written ≡ None) (λ fault. text_fault op operands cond written ≡ Some fault)
+abbrev pub IsFaultOfText : InstructionSet → Op → Operands → Option Condition → Option WrittenUnit → Result Insn FormFault → Type 0
+IsFaultOfText isa op operands cond written made =
+    MatchResult made (λ insn. text_fault isa op operands cond written ≡ None) (λ fault. text_fault isa op operands cond written ≡ Some fault)
 
 abbrev pub parts_read : Op → Operands → Option Condition → Option WrittenUnit → Parts
 parts_read op operands cond written = record { op = op; operands = operands; cond = cond; unit = unit_written written }
@@ -232,21 +233,21 @@ formed (Some fault) says = Err (Form fault)
 
 -- ---- what is said behind the unit
 
-abbrev pub does : Option Condition → Option WrittenUnit → Option (Op × Operands) → Result Says Cause
-does cond written None = Err BadOperand
-does cond written (Some (op, operands)) = formed (text_fault op operands cond written) (Does (parts_read op operands cond written))
+abbrev pub does : InstructionSet → Option Condition → Option WrittenUnit → Option (Op × Operands) → Result Says Cause
+does isa cond written None = Err BadOperand
+does isa cond written (Some (op, operands)) = formed (text_fault isa op operands cond written) (Does (parts_read op operands cond written))
 
-abbrev pub jumps : Option Condition → Option WrittenUnit → Word → Result Says Cause
-jumps cond written label = formed (text_fault Branch (Block 0) cond written) (Jumps (parts_read Branch (Block 0) cond written) label)
+abbrev pub jumps : InstructionSet → Option Condition → Option WrittenUnit → Word → Result Says Cause
+jumps isa cond written label = formed (text_fault isa Branch (Block 0) cond written) (Jumps (parts_read Branch (Block 0) cond written) label)
 
-abbrev pub jumps_or_does : Option Word → Mnemonic → Option Condition → Option WrittenUnit → List Word → Result Says Cause
-jumps_or_does (Some label) mnemonic cond written words = jumps cond written label
-jumps_or_does None mnemonic cond written words =
-    does cond written (operands_written mnemonic written (operands_of (is_storing mnemonic) (kinds_of words)))
+abbrev pub jumps_or_does : InstructionSet → Option Word → Mnemonic → Option Condition → Option WrittenUnit → List Word → Result Says Cause
+jumps_or_does isa (Some label) mnemonic cond written words = jumps isa cond written label
+jumps_or_does isa None mnemonic cond written words =
+    does isa cond written (operands_written isa mnemonic written (operands_of isa (is_storing mnemonic) (kinds_in isa words)))
 
-unfoldable pub behind_unit : Mnemonic → Option Condition → Option WrittenUnit → List Word → Result Says Cause
-behind_unit NopName cond written words = pause_of cond (kinds_of words)
-behind_unit mnemonic cond written words = jumps_or_does (target_of mnemonic words) mnemonic cond written words
+unfoldable pub behind_unit : InstructionSet → Mnemonic → Option Condition → Option WrittenUnit → List Word → Result Says Cause
+behind_unit isa NopName cond written words = pause_of cond (kinds_in isa words)
+behind_unit isa mnemonic cond written words = jumps_or_does isa (target_of mnemonic words) mnemonic cond written words
 
 -- ---- the steps in their order
 
@@ -261,17 +262,17 @@ and_read (Ok found) next = next found
 and_read (Err cause) next = Err cause
 
 -- the condition, the mnemonic, the unit and what stands behind it
-unfoldable pub instruction_of : List Word → Result Says Cause
-instruction_of words =
+unfoldable pub instruction_of : InstructionSet → List Word → Result Says Cause
+instruction_of isa words =
     and_read (or_fault BadOperand (condition_front words)) (λ condition.
-    and_read (or_fault UnknownMnemonic (mnemonic_front condition.1)) (λ mnemonic.
+    and_read (or_fault UnknownMnemonic (mnemonic_front isa condition.1)) (λ mnemonic.
     and_read (or_fault BadUnit (unit_behind mnemonic.0 mnemonic.1)) (λ unit.
-    behind_unit mnemonic.0 condition.0 unit.0 unit.1)))
+    behind_unit isa mnemonic.0 condition.0 unit.0 unit.1)))
 
 -- behind the label
-unfoldable pub rest_says : List Word → Result Says Cause
-rest_says [] = Ok Nothing
-rest_says (word ∷ words) = if begins is_dot word then Err Directive else instruction_of (word ∷ words)
+unfoldable pub rest_says : InstructionSet → List Word → Result Says Cause
+rest_says isa [] = Ok Nothing
+rest_says isa (word ∷ words) = if begins is_dot word then Err Directive else instruction_of isa (word ∷ words)
 
 -- ---- a line
 
@@ -279,13 +280,13 @@ abbrev pub with_rest : Option Word → Result Says Cause → Result (Option Word
 with_rest label (Ok says) = Ok (label, says)
 with_rest label (Err cause) = Err cause
 
-abbrev pub with_head : Result (Option Word × List Word) Cause → Result (Option Word × Says) Cause
-with_head (Ok (label, words)) = with_rest label (rest_says words)
-with_head (Err cause) = Err cause
+abbrev pub with_head : InstructionSet → Result (Option Word × List Word) Cause → Result (Option Word × Says) Cause
+with_head isa (Ok (label, words)) = with_rest label (rest_says isa words)
+with_head isa (Err cause) = Err cause
 
 -- what a line says by itself: its label and what stands behind it, or its first fault
-unfoldable pub line_of : List ℕ → Result (Option Word × Says) Cause
-line_of line = with_head (head_of line)
+unfoldable pub line_of : InstructionSet → List ℕ → Result (Option Word × Says) Cause
+line_of isa line = with_head isa (head_of line)
 
 -- the fault, where there is one
 abbrev pub fault_in : {T : Type 0} → Result T Cause → Option Cause

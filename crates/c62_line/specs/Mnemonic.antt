@@ -7,16 +7,18 @@ use Rattle.c62_op.specs.declared.register.Letter.TheVariants.{L, S, D}
 use Rattle.c62_op.specs.declared.register.Reg.{Reg}
 use Rattle.c62_op.specs.declared.operands.Op.{Op}
 use Rattle.c62_op.specs.declared.operands.Op.TheVariants.{Add, Sub, And, Or, Xor, Cmpeq, Cmpgt, Cmplt, Cmpgtu, Cmpltu, Add2, Mvk, Mvklh, Mpy, Mpyu}
+use Rattle.c62_op.specs.declared.operands.Op.TheVariants.{Sadd, Smpy, Smpyh, Smpyhl, Smpylh, Mpylhu, Mpyhlu, Mpyhus, Mpyhsu, Mpyhuls, Mpylshu, Mpyhslu, Mpyluhs}
 use Rattle.c62_op.specs.declared.operands.Op.TheVariants.{Mpyus, Mpysu, Mpyh, Mpyhu, Mpyhl, Mpylh}
 use Rattle.c62_op.specs.declared.operands.Operands.{Operands}
 use Rattle.c62_op.specs.declared.operands.Operands.TheVariants.{Three, ConstantFirst, ConstantSecond, Two, Constant, Register}
-use Rattle.c62_op.specs.Takes.{has_kind, same_side, same_letter, has_letter}
+use Rattle.c62_op.specs.Takes.{has_kind_in, is_in, same_side, same_letter, has_letter}
 use Rattle.c62_op.specs.Table.{mnemonic_of, all_operations}
 use Rattle.c62_op.specs.Word.{word, lo, hi, sg_half}
 use Rattle.c62_line.specs.declared.mnemonic.Mnemonic.{Mnemonic}
 use Rattle.c62_line.specs.declared.mnemonic.Mnemonic.TheVariants.{Operation, Mv, Neg, Not, Zero, Mvkl, Mvkh, Nop}
 use Rattle.c62_token.specs.Number.{spells}
 use Rattle.c62_token.specs.Token.{begins}
+use Rattle.c62_op.specs.declared.set.InstructionSet.{InstructionSet}
 
 unfoldable pub operation_named : List ℕ → Option Op
 operation_named name = find (λ op. spells (mnemonic_of op) name) all_operations
@@ -37,12 +39,17 @@ pseudo_named name =
     else (if spells (codes "NOP") name then Some Nop
     else None))))))
 
+-- the operation, where the set has it
+abbrev pub if_in : InstructionSet → Option Op → Option Op
+if_in isa None = None
+if_in isa (Some op) = if is_in isa op then Some op else None
+
 abbrev pub either_mnemonic : Option Op → Option Mnemonic → Option Mnemonic
 either_mnemonic (Some op) other = Some (Operation op)
 either_mnemonic None other = other
 
-unfoldable pub mnemonic_named : List ℕ → Option Mnemonic
-mnemonic_named name = either_mnemonic (operation_named name) (pseudo_named name)
+unfoldable pub mnemonic_named : InstructionSet → List ℕ → Option Mnemonic
+mnemonic_named isa name = either_mnemonic (if_in isa (operation_named name)) (pseudo_named name)
 
 -- whether a unit of this letter may be written behind the mnemonic
 unfoldable pub stands_on : Mnemonic → Letter → Bool
@@ -77,6 +84,19 @@ exchanged Mpyhl = Some Mpylh
 exchanged Mpylh = Some Mpyhl
 exchanged Mpyus = Some Mpysu
 exchanged Mpysu = Some Mpyus
+exchanged Sadd = Some Sadd
+exchanged Smpy = Some Smpy
+exchanged Smpyh = Some Smpyh
+exchanged Smpyhl = Some Smpylh
+exchanged Smpylh = Some Smpyhl
+exchanged Mpylhu = Some Mpyhlu
+exchanged Mpyhlu = Some Mpylhu
+exchanged Mpyhus = Some Mpyhsu
+exchanged Mpyhsu = Some Mpyhus
+exchanged Mpyhuls = Some Mpylshu
+exchanged Mpylshu = Some Mpyhuls
+exchanged Mpyhslu = Some Mpyluhs
+exchanged Mpyluhs = Some Mpyhslu
 exchanged _ = None
 
 abbrev pub is_mvklh : Op → Bool
@@ -110,8 +130,8 @@ in_order op (ConstantSecond a k d) = constant_to_front (exchanged op) op a k d
 in_order op (Constant k d) = (op, Constant (if is_mvklh op then low_half k else k) d)
 in_order op operands = (op, operands)
 
-abbrev pub with_kind : Op × Operands → Option (Op × Operands)
-with_kind (op, operands) = if has_kind op operands then Some (op, operands) else None
+abbrev pub with_kind : InstructionSet → Op × Operands → Option (Op × Operands)
+with_kind isa (op, operands) = if has_kind_in isa op operands then Some (op, operands) else None
 
 -- zero by a subtraction where .L or .D is written
 abbrev pub zero_in : Option Letter → Reg → Op × Operands

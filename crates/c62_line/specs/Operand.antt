@@ -11,6 +11,8 @@ use Rattle.c62_op.specs.declared.operands.Operands.TheVariants as operands
 use Rattle.c62_token.specs.declared.kind.Kind.{Kind}
 use Rattle.c62_token.specs.declared.kind.Kind.TheVariants.{Comma, Star, Open, Close, Plus, Minus, Increment, Decrement, Register, Number}
 use Rattle.c62_line.specs.declared.operand.Address.{Address}
+use Rattle.c62_op.specs.declared.set.InstructionSet.{InstructionSet}
+use Rattle.c62_op.specs.declared.set.InstructionSet.TheVariants.{Core, Full}
 use Rattle.c62_token.specs.declared.token.Tokens.{Tokens}
 use Rattle.c62_token.specs.Token.{words_left}
 
@@ -42,16 +44,21 @@ with_offset base form (Open ∷ Register reg ∷ Close ∷ rest) = Some (address
 with_offset base form (Open ∷ rest) = None
 with_offset base form rest = Some (address_with base form (usual_offset form), rest)
 
+-- an address without a sign, which has an offset in the full set alone
+abbrev pub unsigned_front : InstructionSet → Reg → List Kind → Option (Address × List Kind)
+unsigned_front Core base rest = Some (address_with base form.Plus (usual_offset form.Plus), rest)
+unsigned_front Full base rest = with_offset base form.Plus rest
+
 -- the address behind a `*`, and what stands behind it
-unfoldable pub address_front : List Kind → Option (Address × List Kind)
-address_front (Plus ∷ Register base ∷ rest) = with_offset base form.Plus rest
-address_front (Minus ∷ Register base ∷ rest) = with_offset base form.Minus rest
-address_front (Increment ∷ Register base ∷ rest) = with_offset base form.PreIncrement rest
-address_front (Decrement ∷ Register base ∷ rest) = with_offset base form.PreDecrement rest
-address_front (Register base ∷ Increment ∷ rest) = with_offset base form.PostIncrement rest
-address_front (Register base ∷ Decrement ∷ rest) = with_offset base form.PostDecrement rest
-address_front (Register base ∷ rest) = Some (address_with base form.Plus (usual_offset form.Plus), rest)
-address_front _ = None
+unfoldable pub address_front : InstructionSet → List Kind → Option (Address × List Kind)
+address_front isa (Plus ∷ Register base ∷ rest) = with_offset base form.Plus rest
+address_front isa (Minus ∷ Register base ∷ rest) = with_offset base form.Minus rest
+address_front isa (Increment ∷ Register base ∷ rest) = with_offset base form.PreIncrement rest
+address_front isa (Decrement ∷ Register base ∷ rest) = with_offset base form.PreDecrement rest
+address_front isa (Register base ∷ Increment ∷ rest) = with_offset base form.PostIncrement rest
+address_front isa (Register base ∷ Decrement ∷ rest) = with_offset base form.PostDecrement rest
+address_front isa (Register base ∷ rest) = unsigned_front isa base rest
+address_front isa _ = None
 
 abbrev pub access : Reg → Address → Operands
 access reg address = operands.Access reg address.base address.form address.offset
@@ -67,14 +74,14 @@ stored reg _ = None
 
 -- ---- all operands but labels; those of a store begin with its register
 
-unfoldable pub operands_of : Bool → List Kind → Option Operands
-operands_of true (Register reg ∷ Comma ∷ Star ∷ address) = stored reg (address_front address)
-operands_of false (Star ∷ address) = loaded (address_front address)
-operands_of false (Register a ∷ []) = Some (operands.Register a)
-operands_of false (Register a ∷ Comma ∷ Register d ∷ []) = Some (operands.Two a d)
-operands_of false (Number k ∷ Comma ∷ Register d ∷ []) = Some (operands.Constant k d)
-operands_of false (Register a ∷ Comma ∷ Register b ∷ Comma ∷ Register d ∷ []) = Some (operands.Three a b d)
-operands_of false (Number k ∷ Comma ∷ Register a ∷ Comma ∷ Register d ∷ []) = Some (operands.ConstantFirst k a d)
-operands_of false (Register a ∷ Comma ∷ Number k ∷ Comma ∷ Register d ∷ []) = Some (operands.ConstantSecond a k d)
-operands_of false (Register a ∷ Comma ∷ Number k ∷ Comma ∷ Number m ∷ Comma ∷ Register d ∷ []) = Some (operands.Field a k m d)
-operands_of _ _ = None
+unfoldable pub operands_of : InstructionSet → Bool → List Kind → Option Operands
+operands_of isa true (Register reg ∷ Comma ∷ Star ∷ address) = stored reg (address_front isa address)
+operands_of isa false (Star ∷ address) = loaded (address_front isa address)
+operands_of isa false (Register a ∷ []) = Some (operands.Register a)
+operands_of isa false (Register a ∷ Comma ∷ Register d ∷ []) = Some (operands.Two a d)
+operands_of isa false (Number k ∷ Comma ∷ Register d ∷ []) = Some (operands.Constant k d)
+operands_of isa false (Register a ∷ Comma ∷ Register b ∷ Comma ∷ Register d ∷ []) = Some (operands.Three a b d)
+operands_of isa false (Number k ∷ Comma ∷ Register a ∷ Comma ∷ Register d ∷ []) = Some (operands.ConstantFirst k a d)
+operands_of isa false (Register a ∷ Comma ∷ Number k ∷ Comma ∷ Register d ∷ []) = Some (operands.ConstantSecond a k d)
+operands_of isa false (Register a ∷ Comma ∷ Number k ∷ Comma ∷ Number m ∷ Comma ∷ Register d ∷ []) = Some (operands.Field a k m d)
+operands_of isa _ _ = None

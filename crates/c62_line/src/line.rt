@@ -20,11 +20,12 @@ use crate::operand::read_operands;
 use crate::reading::{Reading, Statement};
 use crate::unit::{WrittenUnit, first_unit};
 use arrayvec::ArrayVec;
-use c62_insn::{Cond, Letter, Op, Operands};
+use c62_insn::{Cond, InstructionSet, Letter, Op, Operands};
 use c62_token::number::{is_label, spells};
 use c62_token::{Kind, Tokens, begins_with, is_mark, mark, scan_line};
 
 /// The number of cycles behind NOP, which takes no condition.
+#[inline(always)]
 #[tactic(auto, unfolding(crate::specs::Line::pause_of))]
 fn pause<'a>(cond: Option<Cond>, kinds: &[Kind]) -> Result<Statement<'a>, Cause>
     ensures says { said result ≡ pause_of cond kinds.now }
@@ -85,18 +86,19 @@ fn letter_written(written: Option<WrittenUnit>) -> Option<Letter>
 /// The instruction, where its operation has such operands.
 #[inline(always)]
 fn does<'a>(
+    isa: InstructionSet,
     cond: Option<Cond>,
     written: Option<WrittenUnit>,
     read: (Op, Operands),
 ) -> Result<Statement<'a>, Cause>
-    ensures says { said result ≡ does cond written (with_kind read) }
+    ensures says { said result ≡ does isa cond written (with_kind isa read) }
     ensures label { IfOk result (λ what. IsTrue (names_label what)) }
 {
     let (op, operands) = read;
-    match make(op, operands, cond, written) {
+    match make(isa, op, operands, cond, written) {
         Ok(insn) => Ok(Statement::Insn(insn)),
         Err(fault) => {
-            if op.has_kind(operands) {
+            if op.has_kind_in(isa, operands) {
                 Err(Cause::Form(fault))
             } else {
                 Err(Cause::BadOperand)
@@ -108,27 +110,29 @@ fn does<'a>(
 /// The operation and operands that the mnemonic and the tokens behind it stand for.
 #[inline(always)]
 fn stands_for(
+    isa: InstructionSet,
     mnemonic: Mnemonic,
     written: Option<WrittenUnit>,
     kinds: &[Kind],
 ) -> Option<(Op, Operands)>
-    ensures { result ≡ standing mnemonic written (operands_of (is_storing mnemonic) kinds.now) }
+    ensures { result ≡ standing mnemonic written (operands_of isa (is_storing mnemonic) kinds.now) }
 {
-    let operands = read_operands(is_storing(mnemonic), kinds)?;
+    let operands = read_operands(isa, is_storing(mnemonic), kinds)?;
     mnemonic.stands_for(letter_written(written), operands)
 }
 
 #[inline(always)]
 fn jumps<'a>(
+    isa: InstructionSet,
     cond: Option<Cond>,
     written: Option<WrittenUnit>,
     label: &'a [u8],
 ) -> Result<Statement<'a>, Cause>
     requires { IsTrue (is_label label.now) }
-    ensures says { said result ≡ jumps cond written label.now }
+    ensures says { said result ≡ jumps isa cond written label.now }
     ensures label { IfOk result (λ what. IsTrue (names_label what)) }
 {
-    match make(Op::B, Operands::Block(0), cond, written) {
+    match make(isa, Op::B, Operands::Block(0), cond, written) {
         Ok(insn) => Ok(Statement::Jump(insn, label)),
         Err(fault) => Err(Cause::Form(fault)),
     }
@@ -138,26 +142,27 @@ fn jumps<'a>(
 #[inline(always)]
 #[tactic(auto, using(crate::proofs::KindLemmas::too_many_behind), unfolding(crate::specs::Line::behind_unit))]
 fn behind_unit<'a>(
+    isa: InstructionSet,
     mnemonic: Mnemonic,
     cond: Option<Cond>,
     written: Option<WrittenUnit>,
     rest: Tokens<'a>,
 ) -> Result<Statement<'a>, Cause>
-    ensures says { said result ≡ behind_unit mnemonic cond written (words_left rest.entry) }
+    ensures says { said result ≡ behind_unit isa mnemonic cond written (words_left rest.entry) }
     ensures label { IfOk result (λ what. IsTrue (names_label what)) }
 {
     if let Some(label) = target(mnemonic, rest) {
-        return jumps(cond, written, label);
+        return jumps(isa, cond, written, label);
     }
     let mut kinds = ArrayVec::new();
-    if !rest.add_kinds(&mut kinds) {
+    if !rest.add_kinds(isa, &mut kinds) {
         return Err(Cause::BadOperand);
     }
     if matches!(mnemonic, Mnemonic::Nop) {
         return pause(cond, &kinds);
     }
-    match stands_for(mnemonic, written, &kinds) {
-        Some(read) => does(cond, written, read),
+    match stands_for(isa, mnemonic, written, &kinds) {
+        Some(read) => does(isa, cond, written, read),
         None => Err(Cause::BadOperand),
     }
 }
@@ -199,13 +204,13 @@ pub fn first_condition<'a>(rest: Tokens<'a>) -> Option<(Option<Cond>, Tokens<'a>
     }
 }
 
-/// The mnemonic that stands first, and what follows it.
+/// The mnemonic of the set that stands first, and what follows it.
 #[inline(always)]
-pub fn first_mnemonic<'a>(rest: Tokens<'a>) -> Option<(Mnemonic, Tokens<'a>)>
-    ensures { Finds result (mnemonic_front (words_left rest.entry)) }
+pub fn first_mnemonic<'a>(isa: InstructionSet, rest: Tokens<'a>) -> Option<(Mnemonic, Tokens<'a>)>
+    ensures { Finds result (mnemonic_front isa (words_left rest.entry)) }
 {
     let (name, rest) = rest.split()?;
-    Some((mnemonic_named(name)?, rest))
+    Some((mnemonic_named(isa, name)?, rest))
 }
 
 /// Whether the unit, where one is written, may be written behind the mnemonic.
@@ -238,17 +243,17 @@ pub fn unit_behind<'a>(
 /// A condition, a mnemonic, a unit and operands.
 #[inline(always)]
 #[tactic(auto, unfolding(crate::specs::Line::instruction_of))]
-fn instruction<'a>(rest: Tokens<'a>) -> Result<Statement<'a>, Cause>
-    ensures says { said result ≡ instruction_of (words_left rest.entry) }
+fn instruction<'a>(isa: InstructionSet, rest: Tokens<'a>) -> Result<Statement<'a>, Cause>
+    ensures says { said result ≡ instruction_of isa (words_left rest.entry) }
     ensures label { IfOk result (λ what. IsTrue (names_label what)) }
 {
     let (cond, rest) = first_condition(rest).ok_or(Cause::BadOperand)?;
-    let (mnemonic, rest) = first_mnemonic(rest).ok_or(Cause::UnknownMnemonic)?;
+    let (mnemonic, rest) = first_mnemonic(isa, rest).ok_or(Cause::UnknownMnemonic)?;
     let (written, rest) = unit_behind(mnemonic, rest).ok_or(Cause::BadUnit)?;
-    behind_unit(mnemonic, cond, written, rest)
+    behind_unit(isa, mnemonic, cond, written, rest)
 }
 
-/// What these tokens say, which stand behind a line's label. A branch's label still stands in the line.
+/// What these tokens say by the instructions of a set, which stand behind a line's label. A branch's label still stands in the line.
 ///
 /// # Errors
 ///
@@ -256,8 +261,8 @@ fn instruction<'a>(rest: Tokens<'a>) -> Result<Statement<'a>, Cause>
 /// what is wrong with the operands or the form (docs/SERIAL_TEXT.md, "Faults of a line").
 #[inline(always)]
 #[tactic(auto, unfolding(crate::specs::Line::rest_says))]
-pub fn read_rest<'a>(rest: Tokens<'a>) -> Result<Statement<'a>, Cause>
-    ensures says { said result ≡ rest_says (words_left rest.entry) }
+pub fn read_rest<'a>(isa: InstructionSet, rest: Tokens<'a>) -> Result<Statement<'a>, Cause>
+    ensures says { said result ≡ rest_says isa (words_left rest.entry) }
     ensures label { IfOk result (λ what. IsTrue (names_label what)) }
 {
     match rest.peek() {
@@ -265,7 +270,7 @@ pub fn read_rest<'a>(rest: Tokens<'a>) -> Result<Statement<'a>, Cause>
         Some(word) => if begins_with(b'.', word) {
             Err(Cause::Directive)
         } else {
-            instruction(rest)
+            instruction(isa, rest)
         },
     }
 }
@@ -362,23 +367,23 @@ pub fn read_head<'a>(line: &'a [u8]) -> Result<(Option<&'a [u8]>, Tokens<'a>), C
     read_label(tokens, bytes.colon)
 }
 
-/// The reading of one line, which takes no memory. The line is without its end.
+/// The reading of one line by the instructions of a set, which takes no memory. The line is without its end.
 ///
 /// # Errors
 ///
 /// The first fault of the line, which carries the line 1. All is judged but what needs other lines: whether an earlier line has the label, whether some line has the label that a
 /// branch goes to, and how many instructions and blocks there are (docs/SERIAL_TEXT.md, "Faults of a line").
 #[tactic(auto, unfolding(crate::specs::Line::line_of))]
-pub fn read_insn(line: &[u8]) -> Result<Reading, ReadFault>
-    ensures reading { IfOk result (λ reading. line_of line.now ≡ Ok (reading.label, said_of reading.what)) }
-    ensures cause { IfErr result (λ fault. line_of line.now ≡ Err fault.cause) }
+pub fn read_insn(isa: InstructionSet, line: &[u8]) -> Result<Reading, ReadFault>
+    ensures reading { IfOk result (λ reading. line_of isa line.now ≡ Ok (reading.label, said_of reading.what)) }
+    ensures cause { IfErr result (λ fault. line_of isa line.now ≡ Err fault.cause) }
     ensures line { IfErr result (λ fault. fault.line ≡ 1) }
 {
     let (label, rest) = match read_head(line) {
         Ok(head) => head,
         Err(cause) => return Err(ReadFault::at(1, cause)),
     };
-    match read_rest(rest) {
+    match read_rest(isa, rest) {
         Ok(what) => Ok(Reading {
             label: owned_label(label),
             what: what.owned(),

@@ -8,11 +8,13 @@ ghost use Rattle.c62_token.specs.Number.{spells};
 ghost use Rattle.c62_op.specs.Word.{word, lo};
 
 use c62_insn::Op::{
-    Abs, Add, Add2, Addab, Addah, Addaw, Addk, And, B, Cmpeq, Cmpgt, Cmpgtu, Cmplt, Cmpltu, Ext,
-    Extu, Ldb, Ldbu, Ldh, Ldhu, Ldw, Mpy, Mpyh, Mpyhl, Mpyhu, Mpylh, Mpysu, Mpyu, Mpyus, Mvk,
-    Mvklh, Or, Shl, Shr, Shru, Stb, Sth, Stw, Sub, Sub2, Xor,
+    Abs, Add, Add2, Addab, Addah, Addaw, Addk, And, B, Clr, Cmpeq, Cmpgt, Cmpgtu, Cmplt, Cmpltu,
+    Ext, Extu, Ldb, Ldbu, Ldh, Ldhu, Ldw, Lmbd, Mpy, Mpyh, Mpyhl, Mpyhlu, Mpyhslu, Mpyhsu, Mpyhu,
+    Mpyhuls, Mpyhus, Mpylh, Mpylhu, Mpylshu, Mpyluhs, Mpysu, Mpyu, Mpyus, Mvk, Mvklh, Norm, Or,
+    Sadd, Set, Shl, Shr, Shru, Smpy, Smpyh, Smpyhl, Smpylh, Sshl, Ssub, Stb, Sth, Stw, Sub, Sub2,
+    Subab, Subah, Subaw, Subc, Xor,
 };
-use c62_insn::{Letter, Op, Operands, Reg, word_of};
+use c62_insn::{InstructionSet, Letter, Op, Operands, Reg, word_of};
 use c62_token::number::spells;
 
 /// What may stand first in an instruction.
@@ -28,7 +30,7 @@ pub enum Mnemonic {
     Nop,
 }
 
-ghost use Rattle.c62_line.specs.Mnemonic.{begins_so, operation_named, pseudo_named, mnemonic_named, stands_on, exchanged, low_half, signed_low_half, high_half, constant_to_front, crossed_to_back, in_order, zero_in, stands_for};
+ghost use Rattle.c62_line.specs.Mnemonic.{begins_so, if_in, operation_named, pseudo_named, mnemonic_named, stands_on, exchanged, low_half, signed_low_half, high_half, constant_to_front, crossed_to_back, in_order, zero_in, stands_for};
 
 /// Operations among which each is whose name begins with this small letter, in their order.
 fn beginning_with(letter: u8) -> &'static [Op]
@@ -37,15 +39,20 @@ fn beginning_with(letter: u8) -> &'static [Op]
     match letter {
         b'a' => &[Add, And, Abs, Add2, Addk, Addab, Addah, Addaw],
         b'b' => &[B],
-        b'c' => &[Cmpeq, Cmpgt, Cmplt, Cmpgtu, Cmpltu],
+        b'c' => &[Cmpeq, Cmpgt, Cmplt, Cmpgtu, Cmpltu, Clr],
         b'e' => &[Ext, Extu],
-        b'l' => &[Ldb, Ldbu, Ldh, Ldhu, Ldw],
+        b'l' => &[Ldb, Ldbu, Ldh, Ldhu, Ldw, Lmbd],
         b'm' => &[
-            Mvk, Mvklh, Mpy, Mpyu, Mpyus, Mpysu, Mpyh, Mpyhu, Mpyhl, Mpylh,
+            Mvk, Mvklh, Mpy, Mpyu, Mpyus, Mpysu, Mpyh, Mpyhu, Mpyhl, Mpylh, Mpylhu, Mpyhlu, Mpyhus,
+            Mpyhsu, Mpyhuls, Mpyhslu, Mpyluhs, Mpylshu,
         ],
-        b'n' | b'z' => &[],
+        b'n' => &[Norm],
+        b'z' => &[],
         b'o' => &[Or],
-        b's' => &[Sub, Sub2, Shl, Shr, Shru, Stb, Sth, Stw],
+        b's' => &[
+            Sub, Sub2, Shl, Shr, Shru, Stb, Sth, Stw, Subc, Sadd, Ssub, Set, Sshl, Smpy, Smpyh,
+            Smpyhl, Smpylh, Subab, Subah, Subaw,
+        ],
         b'x' => &[Xor],
         _ => &Op::ALL,
     }
@@ -53,6 +60,7 @@ fn beginning_with(letter: u8) -> &'static [Op]
 
 /// Operations whose names in capitals begin with this letter and have this length. What is missing here is found among all
 /// whose names begin so, which takes longer.
+#[inline(always)]
 fn of_length(letter: u8, length: usize) -> &'static [Op] {
     match (letter, length) {
         (b'A', 3) => &[Add, And, Abs],
@@ -62,15 +70,21 @@ fn of_length(letter: u8, length: usize) -> &'static [Op] {
         (b'C', 5) => &[Cmpgt, Cmplt, Cmpeq],
         (b'C', 6) => &[Cmpgtu, Cmpltu],
         (b'E', 3) => &[Ext],
+        (b'C', 3) => &[Clr],
         (b'E', 4) => &[Extu],
         (b'L', 3) => &[Ldw, Ldh, Ldb],
-        (b'L', 4) => &[Ldhu, Ldbu],
         (b'M', 3) => &[Mpy, Mvk],
         (b'M', 4) => &[Mpyh, Mpyu],
+        (b'L', 4) => &[Ldhu, Ldbu, Lmbd],
         (b'M', 5) => &[Mvklh, Mpyhl, Mpylh, Mpyhu, Mpyus, Mpysu],
+        (b'M', 6) => &[Mpylhu, Mpyhlu, Mpyhus, Mpyhsu],
+        (b'M', 7) => &[Mpyhuls, Mpyhslu, Mpyluhs, Mpylshu],
+        (b'N', 4) => &[Norm],
         (b'O', 2) => &[Or],
-        (b'S', 3) => &[Sub, Shl, Shr, Stw, Sth, Stb],
-        (b'S', 4) => &[Shru, Sub2],
+        (b'S', 3) => &[Sub, Shl, Shr, Stw, Sth, Stb, Set],
+        (b'S', 4) => &[Shru, Sub2, Subc, Sadd, Ssub, Sshl, Smpy],
+        (b'S', 5) => &[Smpyh, Subab, Subah, Subaw],
+        (b'S', 6) => &[Smpyhl, Smpylh],
         (b'X', 3) => &[Xor],
         _ => &[],
     }
@@ -85,6 +99,7 @@ fn named_among(ops: &[Op], name: &[u8]) -> Option<Op>
 }
 
 /// The operation of this name in capitals, as most are written.
+#[inline(always)]
 fn in_capitals_among(ops: &[Op], name: &[u8]) -> Option<Op>
     ensures { result ≡ find (λ op. bytes_eq (mnemonic_of op) name.now) ops.now }
 {
@@ -94,6 +109,7 @@ fn in_capitals_among(ops: &[Op], name: &[u8]) -> Option<Op>
 }
 
 /// The operation of this name.
+#[inline(always)]
 fn operation_named(name: &[u8]) -> Option<Op>
     ensures { result ≡ operation_named name.now }
 {
@@ -132,23 +148,36 @@ fn pseudo_named(name: &[u8]) -> Option<Mnemonic>
     }
 }
 
-/// The mnemonic of this name.
-#[tactic(auto, unfolding(crate::specs::Mnemonic::mnemonic_named))]
-pub(crate) fn mnemonic_named(name: &[u8]) -> Option<Mnemonic>
-    ensures { result ≡ mnemonic_named name.now }
+/// The operation of this name, where the set has it.
+#[inline(always)]
+fn operation_in(isa: InstructionSet, name: &[u8]) -> Option<Op>
+    ensures { result ≡ if_in isa (operation_named name.now) }
 {
-    match operation_named(name) {
+    let op = operation_named(name)?;
+    if op.is_in(isa) { Some(op) } else { None }
+}
+
+/// The mnemonic of this name that the set has.
+#[inline(always)]
+#[tactic(auto, unfolding(crate::specs::Mnemonic::mnemonic_named))]
+pub(crate) fn mnemonic_named(isa: InstructionSet, name: &[u8]) -> Option<Mnemonic>
+    ensures { result ≡ mnemonic_named isa name.now }
+{
+    match operation_in(isa, name) {
         Some(op) => Some(Mnemonic::Operation(op)),
         None => pseudo_named(name),
     }
 }
 
 /// The operation that does the same with its two sources exchanged.
+#[inline(always)]
 fn exchanged(op: Op) -> Option<Op>
     ensures { result ≡ exchanged op }
 {
     match op {
-        Add | And | Or | Xor | Add2 | Cmpeq | Mpy | Mpyu | Mpyh | Mpyhu => Some(op),
+        Add | And | Or | Xor | Add2 | Cmpeq | Mpy | Mpyu | Mpyh | Mpyhu | Sadd | Smpy | Smpyh => {
+            Some(op)
+        }
         Cmpgt => Some(Cmplt),
         Cmplt => Some(Cmpgt),
         Cmpgtu => Some(Cmpltu),
@@ -157,6 +186,16 @@ fn exchanged(op: Op) -> Option<Op>
         Mpylh => Some(Mpyhl),
         Mpyus => Some(Mpysu),
         Mpysu => Some(Mpyus),
+        Smpyhl => Some(Smpylh),
+        Smpylh => Some(Smpyhl),
+        Mpylhu => Some(Mpyhlu),
+        Mpyhlu => Some(Mpylhu),
+        Mpyhus => Some(Mpyhsu),
+        Mpyhsu => Some(Mpyhus),
+        Mpyhuls => Some(Mpylshu),
+        Mpylshu => Some(Mpyhuls),
+        Mpyhslu => Some(Mpyluhs),
+        Mpyluhs => Some(Mpyhslu),
         _ => None,
     }
 }
@@ -195,6 +234,7 @@ fn constant_to_front(op: Op, a: Reg, k: i64, d: Reg) -> (Op, Operands)
     }
 }
 
+#[inline(always)]
 fn crossed_to_back(op: Op, a: Reg, b: Reg, d: Reg) -> (Op, Operands)
     ensures { result ≡ crossed_to_back (exchanged op) op a b d }
 {
@@ -210,6 +250,7 @@ fn crossed_to_back(op: Op, a: Reg, b: Reg, d: Reg) -> (Op, Operands)
     }
 }
 
+#[inline(always)]
 #[tactic(auto, unfolding(crate::specs::Mnemonic::in_order))]
 fn in_order(op: Op, operands: Operands) -> (Op, Operands)
     ensures { result ≡ in_order op operands }

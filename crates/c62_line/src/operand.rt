@@ -2,7 +2,7 @@
 
 ghost use Rattle.std.specs.Prelude.{◌≡◌, true, false, Some, None, MatchOption};
 
-use c62_insn::{AddressForm, Offset, Operands, Reg};
+use c62_insn::{AddressForm, InstructionSet, Offset, Operands, Reg};
 use c62_token::Kind::{self, Close, Comma, Decrement, Increment, Number, Open, Register, Star};
 
 /// The address of a load or store.
@@ -13,7 +13,7 @@ pub(crate) struct Address {
     pub offset: Offset,
 }
 
-ghost use Rattle.c62_line.specs.Operand.{FindsBefore, address_with, usual_offset, with_offset, address_front, access, loaded, stored, operands_of};
+ghost use Rattle.c62_line.specs.Operand.{FindsBefore, address_with, usual_offset, with_offset, unsigned_front, address_front, access, loaded, stored, operands_of};
 
 fn address_with(base: Reg, form: AddressForm, offset: Offset) -> Address
     ensures { result ≡ address_with base form offset }
@@ -49,11 +49,22 @@ fn with_offset(base: Reg, form: AddressForm, kinds: &[Kind]) -> Option<(Address,
     }
 }
 
+/// An address without a sign, which has an offset in the full set alone, and what stands behind it.
+fn without_sign(isa: InstructionSet, base: Reg, rest: &[Kind]) -> Option<(Address, &[Kind])>
+    ensures { FindsBefore result (unsigned_front isa base rest.entry.now) }
+{
+    let form = AddressForm::Plus;
+    match isa {
+        InstructionSet::Core => Some((address_with(base, form, usual_offset(form)), rest)),
+        InstructionSet::Full => with_offset(base, form, rest),
+    }
+}
+
 /// The address behind a `*`, and what stands behind it.
 #[inline(always)]
 #[tactic(auto, unfolding(crate::specs::Operand::address_front))]
-fn read_address(kinds: &[Kind]) -> Option<(Address, &[Kind])>
-    ensures { FindsBefore result (address_front kinds.entry.now) }
+fn read_address(isa: InstructionSet, kinds: &[Kind]) -> Option<(Address, &[Kind])>
+    ensures { FindsBefore result (address_front isa kinds.entry.now) }
 {
     match *kinds {
         [Kind::Plus, Register(base), ..] => { with_offset(base, AddressForm::Plus, &kinds[2..]) }
@@ -70,10 +81,7 @@ fn read_address(kinds: &[Kind]) -> Option<(Address, &[Kind])>
         [Register(base), Decrement, ..] => {
             with_offset(base, AddressForm::PostDecrement, &kinds[2..])
         }
-        [Register(base), ..] => {
-            let form = AddressForm::Plus;
-            Some((address_with(base, form, usual_offset(form)), &kinds[1..]))
-        }
+        [Register(base), ..] => without_sign(isa, base, &kinds[1..]),
         _ => None,
     }
 }
@@ -90,10 +98,10 @@ fn access(reg: Reg, address: Address) -> Operands
 }
 
 /// The address behind the `*` of a load, a comma and the register.
-fn loaded(kinds: &[Kind]) -> Option<Operands>
-    ensures { result ≡ loaded (address_front kinds.now) }
+fn loaded(isa: InstructionSet, kinds: &[Kind]) -> Option<Operands>
+    ensures { result ≡ loaded (address_front isa kinds.now) }
 {
-    let (address, rest) = read_address(kinds)?;
+    let (address, rest) = read_address(isa, kinds)?;
     match *rest {
         [Comma, Register(reg)] => Some(access(reg, address)),
         _ => None,
@@ -101,10 +109,10 @@ fn loaded(kinds: &[Kind]) -> Option<Operands>
 }
 
 /// The address behind the `*` of a store of this register, and nothing else.
-fn stored(reg: Reg, kinds: &[Kind]) -> Option<Operands>
-    ensures { result ≡ stored reg (address_front kinds.now) }
+fn stored(isa: InstructionSet, reg: Reg, kinds: &[Kind]) -> Option<Operands>
+    ensures { result ≡ stored reg (address_front isa kinds.now) }
 {
-    let (address, rest) = read_address(kinds)?;
+    let (address, rest) = read_address(isa, kinds)?;
     if rest.is_empty() {
         Some(access(reg, address))
     } else {
@@ -114,22 +122,22 @@ fn stored(reg: Reg, kinds: &[Kind]) -> Option<Operands>
 
 /// A register, a comma, `*` and an address.
 #[tactic(auto, unfolding(crate::specs::Operand::operands_of))]
-fn read_store(kinds: &[Kind]) -> Option<Operands>
-    ensures { result ≡ operands_of true kinds.now }
+fn read_store(isa: InstructionSet, kinds: &[Kind]) -> Option<Operands>
+    ensures { result ≡ operands_of isa true kinds.now }
 {
     match *kinds {
-        [Register(reg), Comma, Star, ..] => stored(reg, &kinds[3..]),
+        [Register(reg), Comma, Star, ..] => stored(isa, reg, &kinds[3..]),
         _ => None,
     }
 }
 
 /// The operands of an instruction that is no store.
 #[tactic(auto, unfolding(crate::specs::Operand::operands_of))]
-fn read_others(kinds: &[Kind]) -> Option<Operands>
-    ensures { result ≡ operands_of false kinds.now }
+fn read_others(isa: InstructionSet, kinds: &[Kind]) -> Option<Operands>
+    ensures { result ≡ operands_of isa false kinds.now }
 {
     match *kinds {
-        [Star, ..] => loaded(&kinds[1..]),
+        [Star, ..] => loaded(isa, &kinds[1..]),
         [Register(a)] => Some(Operands::Register(a)),
         [Register(a), Comma, Register(d)] => Some(Operands::Two(a, d)),
         [Number(k), Comma, Register(d)] => Some(Operands::Constant(k, d)),
@@ -161,12 +169,13 @@ fn read_others(kinds: &[Kind]) -> Option<Operands>
 }
 
 /// All operands but labels; those of a store begin with its register.
-pub(crate) fn read_operands(store: bool, kinds: &[Kind]) -> Option<Operands>
-    ensures { result ≡ operands_of store kinds.now }
+#[inline(always)]
+pub(crate) fn read_operands(isa: InstructionSet, store: bool, kinds: &[Kind]) -> Option<Operands>
+    ensures { result ≡ operands_of isa store kinds.now }
 {
     if store {
-        read_store(kinds)
+        read_store(isa, kinds)
     } else {
-        read_others(kinds)
+        read_others(isa, kinds)
     }
 }

@@ -66,6 +66,7 @@ fn mark_of(bytes: &[u8]) -> Option<(Mark, &[u8])>
 }
 
 /// The unit that these bytes begin with, and what is left behind it.
+#[inline(always)]
 #[tactic(auto, unfolding(crate::specs::Unit::unit_split))]
 fn unit_split(bytes: &[u8]) -> Option<(WrittenUnit, &[u8])>
     ensures { FindsBefore result (unit_split bytes.now) }
@@ -121,6 +122,7 @@ impl WrittenUnit {
     }
 
     /// Whether the unit may be written behind the mnemonic.
+    #[inline(always)]
     #[tactic(auto, unfolding(crate::specs::Unit::unit_fits))]
     pub(crate) fn fits(self, mnemonic: Mnemonic) -> bool
         ensures { result ≡ unit_fits mnemonic self }

@@ -15,6 +15,7 @@ use Rattle.c62_lint.specs.Faults.{at_number, faults_from, faults_in, refusal_of,
 use Rattle.c62_lint.specs.Walk.{kept_or, step_drafts, step_fault, walked_faults}
 use Rattle.c62_lint.specs.Laws.{FirstIsTheRefusal, first_among}
 use Rattle.c62_read.specs.declared.limits.TheConstants.{MOST_BYTES}
+use Rattle.c62_op.specs.declared.set.InstructionSet.{InstructionSet}
 
 -- a label field has a label
 pub field_is_label : (line word : List ℕ) → label_field line ≡ Some word → is_label word ≡ true
@@ -24,73 +25,79 @@ field_is_label line word is = grind arith
 -- ---- one line
 
 -- an empty line leaves the blocks as they are
-empty_stands : (labels : List Name) (before : List (List ℕ)) (old : Drafts) → Stands labels before old
-    → Stands labels (more before []) old
+empty_stands : (isa : InstructionSet) (labels : List Name) (before : List (List ℕ)) (old : Drafts)
+    → Stands isa labels before old
+    → Stands isa labels (more before []) old
 unfolding head_of label_front is_taken rest_says hindrance with_says
-empty_stands labels before old stands = (goes labels before [] old stands (head_of []) refl).1 refl old refl
+empty_stands isa labels before old stands = (goes isa labels before [] old stands (head_of []) refl).1 refl old refl
 
-module _ (labels : List Name) (before : List (List ℕ)) (line : List ℕ) (lines : List (List ℕ)) (old : Drafts)
+module _ (isa : InstructionSet) (labels : List Name) (before : List (List ℕ)) (line : List ℕ) (lines : List (List ℕ))
+    (old : Drafts)
     (number : ℕ)
-    (stands : Stands labels before old) where
+    (stands : Stands isa labels before old) where
   -- behind this line, by whether it branches to no label and what is wrong with it
-  line_walked : ((seen : List ℕ) (new : Drafts) → Stands labels (more before seen) new
-      → walked_faults labels (number + 1) lines new ≡ faults_from labels (more before seen) lines)
-      → (step : Step) → fault_of labels before line ≡ step_fault labels step
+  line_walked : ((seen : List ℕ) (new : Drafts) → Stands isa labels (more before seen) new
+      → walked_faults isa labels (number + 1) lines new ≡ faults_from isa labels (more before seen) lines)
+      → (step : Step) → fault_of isa labels before line ≡ step_fault labels step
       → (is_unknown labels step.says ≡ false → (new : Drafts) → step.drafts ≡ Ok new
-      → Stands labels (more before line) new)
+      → Stands isa labels (more before line) new)
       → (unknown : Bool) → is_unknown labels step.says ≡ unknown → (made : Result Drafts Cause) → step.drafts ≡ made
-      → walked_faults labels (number + 1) lines (kept_or old unknown made)
-      ≡ faults_from labels (before ++ unless_faulty (fault_of labels before line) line ∷ []) lines
-  line_walked later step fault next true u made e = rw (fault, u) (later [] old (empty_stands labels before old stands))
+      → walked_faults isa labels (number + 1) lines (kept_or old unknown made)
+      ≡ faults_from isa labels (before ++ unless_faulty (fault_of isa labels before line) line ∷ []) lines
+  line_walked later step fault next true u made e =
+      rw (fault, u) (later [] old (empty_stands isa labels before old stands))
   line_walked later step fault next false u (Err cause) e = rw (fault, u, e)
-      (later [] old (empty_stands labels before old stands))
+      (later [] old (empty_stands isa labels before old stands))
   line_walked later step fault next false u (Ok new) e = rw (fault, u, e) (later line new (next u new e))
 
 -- ---- all lines
 
-walked : (labels : List Name) (lines before : List (List ℕ)) (old : Drafts) (number : ℕ) → number ≡ length before + 1
-    → Stands labels before old → walked_faults labels number lines old ≡ faults_from labels before lines
+walked : (isa : InstructionSet) (labels : List Name) (lines before : List (List ℕ)) (old : Drafts) (number : ℕ)
+    → number ≡ length before + 1
+    → Stands isa labels before old → walked_faults isa labels number lines old ≡ faults_from isa labels before lines
 unfolding walked_faults faults_from add_line
-walked labels [] before old number is stands = refl
-walked labels (line ∷ lines) before old number is stands =
-    let gone = goes labels before line old stands (head_of line) refl in
-    let later = line_walked labels before line lines old number stands
-    (λ seen new there. walked labels lines (more before seen) new (number + 1)
+walked isa labels [] before old number is stands = refl
+walked isa labels (line ∷ lines) before old number is stands =
+    let gone = goes isa labels before line old stands (head_of line) refl in
+    let later = line_walked isa labels before line lines old number stands
+    (λ seen new there. walked isa labels lines (more before seen) new (number + 1)
     (omega (arith, is, length-append before (seen ∷ []))) there) in
     rw is (rw (sym gone.0) (rw (rw is at (later _ gone.0 gone.1 _ refl _ refl)) refl))
 
-pub walked_text : (text : List ℕ) (labels : List Name)
-    → walked_faults labels 1 (lines_of text) no_drafts ≡ faults_from labels [] (lines_of text)
-walked_text text labels = walked labels (lines_of text) [] no_drafts 1 refl (none_stand labels)
+pub walked_text : (isa : InstructionSet) (text : List ℕ) (labels : List Name)
+    → walked_faults isa labels 1 (lines_of text) no_drafts ≡ faults_from isa labels [] (lines_of text)
+walked_text isa text labels = walked isa labels (lines_of text) [] no_drafts 1 refl (none_stand isa labels)
 
 -- ---- the first fault
 
-first_from : (labels : List Name) (lines before : List (List ℕ))
-    → first_among (faults_from labels before lines) ≡ first_fault labels before lines
+first_from : (isa : InstructionSet) (labels : List Name) (lines before : List (List ℕ))
+    → first_among (faults_from isa labels before lines) ≡ first_fault isa labels before lines
 unfolding faults_from first_fault
-first_from labels [] before = refl
-first_from labels (line ∷ lines) before = by_fault (fault_of labels before line) refl
-    (first_from labels lines (before ++ line ∷ []))
+first_from isa labels [] before = refl
+first_from isa labels (line ∷ lines) before = by_fault (fault_of isa labels before line) refl
+    (first_from isa labels lines (before ++ line ∷ []))
   where
-    by_fault : (fault : Option Cause) → fault_of labels before line ≡ fault
-        → first_among (faults_from labels (before ++ line ∷ []) lines) ≡ first_fault labels (before ++ line ∷ []) lines
-        → first_among (faults_from labels before (line ∷ lines)) ≡ first_fault labels before (line ∷ lines)
+    by_fault : (fault : Option Cause) → fault_of isa labels before line ≡ fault
+        → first_among (faults_from isa labels (before ++ line ∷ []) lines)
+        ≡ first_fault isa labels (before ++ line ∷ []) lines
+        → first_among (faults_from isa labels before (line ∷ lines)) ≡ first_fault isa labels before (line ∷ lines)
     by_fault None e later = rw e (later ∙ grind arith)
     by_fault (Some cause) e later = rw e refl
 
-pub first_refusal : (text : List ℕ) → FirstIsTheRefusal text
+pub first_refusal : (isa : InstructionSet) (text : List ℕ) → FirstIsTheRefusal isa text
 unfolding faults_in program_in drafts_in
-first_refusal text = grind (arith, nat_tests, first_from)
+first_refusal isa text = grind (arith, nat_tests, first_from isa)
 
 -- ---- what is told so far
 
-pub faults_more : (labels : List Name) (number : ℕ) (line : List ℕ) (lines all : List (List ℕ)) (old new : Drafts)
+pub faults_more : (isa : InstructionSet) (labels : List Name) (number : ℕ) (line : List ℕ) (lines all : List (List ℕ))
+    (old new : Drafts)
     (told now : List Refusal) (fault : Option Cause) → all ≡ line ∷ lines
-    → fault ≡ step_fault labels (add_line number line old)
-    → new ≡ step_drafts labels (add_line number line old) old → now ≡ told ++ at_number number fault
-    → now ++ walked_faults labels (number + 1) lines new ≡ told ++ walked_faults labels number all old
+    → fault ≡ step_fault labels (add_line isa number line old)
+    → new ≡ step_drafts labels (add_line isa number line old) old → now ≡ told ++ at_number number fault
+    → now ++ walked_faults isa labels (number + 1) lines new ≡ told ++ walked_faults isa labels number all old
 unfolding walked_faults
-faults_more labels number line lines all old new told now fault first is made kept = rw
+faults_more isa labels number line lines all old new told now fault first is made kept = rw
     (kept, first, made, is, append_assoc) refl
 
 one_more : (old : List Refusal) (number : ℕ) (fault : Option Cause)
@@ -123,13 +130,15 @@ all_told faults most all more few none told =
 
 -- ---- the faults of a text
 
-pub faults_are : (text : List ℕ) (labels : List Name) → length text ≤ MOST_BYTES → labels ≡ labels_of (lines_of text)
-    → walked_faults labels 1 (lines_of text) no_drafts ≡ faults_in text
+pub faults_are : (isa : InstructionSet) (text : List ℕ) (labels : List Name) → length text ≤ MOST_BYTES
+    → labels ≡ labels_of (lines_of text)
+    → walked_faults isa labels 1 (lines_of text) no_drafts ≡ faults_in isa text
 unfolding faults_in
-faults_are text labels short are = rw (le-ltb MOST_BYTES (length text) short, are)
-    (walked_text text (labels_of (lines_of text)))
+faults_are isa text labels short are = rw (le-ltb MOST_BYTES (length text) short, are)
+    (walked_text isa text (labels_of (lines_of text)))
 
-pub too_long : (text : List ℕ) (most : ℕ) → MOST_BYTES < length text → 1 ≤ most
-    → take most (faults_in text) ≡ (0, TextTooLong) ∷ []
+pub too_long : (isa : InstructionSet) (text : List ℕ) (most : ℕ) → MOST_BYTES < length text → 1 ≤ most
+    → take most (faults_in isa text) ≡ (0, TextTooLong) ∷ []
 unfolding faults_in
-too_long text most long some = rw (lt-ltb MOST_BYTES (length text) long) (take_within most ((0, TextTooLong) ∷ []) some)
+too_long isa text most long some =
+    rw (lt-ltb MOST_BYTES (length text) long) (take_within most ((0, TextTooLong) ∷ []) some)

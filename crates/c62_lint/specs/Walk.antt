@@ -7,6 +7,7 @@ use Rattle.c62_read.specs.declared.program.TextReader.{TextReader}
 use Rattle.c62_read.specs.Program.{Name, Refusal, fault_if, first_of}
 use Rattle.c62_read.specs.Walk.{Drafts, Step, add_line, is_unknown}
 use Rattle.c62_lint.specs.Faults.{at_number}
+use Rattle.c62_op.specs.declared.set.InstructionSet.{InstructionSet}
 
 -- what is wrong with the line of a step: a branch to none of these labels comes before the counts
 abbrev pub step_fault : List Name → Step → Option Cause
@@ -22,8 +23,8 @@ abbrev pub step_drafts : List Name → Step → Drafts → Drafts
 step_drafts labels step old = kept_or old (is_unknown labels step.says) step.drafts
 
 -- the faults of these lines, of which the first has this number, behind these blocks
-unfoldable pub walked_faults : List Name → ℕ → List (List ℕ) → Drafts → List Refusal
-walked_faults labels number [] drafts = []
-walked_faults labels number (line ∷ lines) drafts =
-    at_number number (step_fault labels (add_line number line drafts))
-    ++ walked_faults labels (number + 1) lines (step_drafts labels (add_line number line drafts) drafts)
+unfoldable pub walked_faults : InstructionSet → List Name → ℕ → List (List ℕ) → Drafts → List Refusal
+walked_faults isa labels number [] drafts = []
+walked_faults isa labels number (line ∷ lines) drafts =
+    at_number number (step_fault labels (add_line isa number line drafts))
+    ++ walked_faults isa labels (number + 1) lines (step_drafts labels (add_line isa number line drafts) drafts)

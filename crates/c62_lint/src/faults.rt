@@ -11,6 +11,7 @@ ghost use Rattle.c62_lint.specs.Faults.{at_number, faults_in, refusal_of};
 ghost use Rattle.c62_lint.specs.Walk.{step_fault, step_drafts, walked_faults};
 
 use c62_line::{Cause, Label, ReadFault, Statement, label_field};
+use c62_op::InstructionSet;
 use c62_read::{MOST_BYTES, TextReader, first_line};
 use std::alloc::{AllocError, Global};
 
@@ -56,16 +57,17 @@ fn labels_in(alloc: Global, text: &[u8]) -> Result<Vec<Label>, AllocError>
 
 /// What is wrong with a line that stands behind these blocks. Where nothing is, they get what the line says.
 fn line_fault(
+    isa: InstructionSet,
     reader: &mut TextReader,
     alloc: Global,
     labels: &[Label],
     number: u32,
     line: &[u8],
 ) -> Result<Option<Cause>, AllocError>
-    ensures fault { IfOk result (λ fault. fault ≡ step_fault labels.now (line_step number line.now reader.old)) }
-    ensures made { OnOk result (drafts_of reader.new ≡ step_drafts labels.now (line_step number line.now reader.old) (drafts_of reader.old)) }
+    ensures fault { IfOk result (λ fault. fault ≡ step_fault labels.now (line_step isa number line.now reader.old)) }
+    ensures made { OnOk result (drafts_of reader.new ≡ step_drafts labels.now (line_step isa number line.now reader.old) (drafts_of reader.old)) }
 {
-    match reader.judge(line) {
+    match reader.judge(isa, line) {
         Err(cause) => Ok(Some(cause)),
         Ok((label, what)) => {
             if is_unknown(labels, &what) {
@@ -92,13 +94,14 @@ fn push_fault(
 
 /// The faults of the lines of a text, whose labels are these.
 fn line_faults(
+    isa: InstructionSet,
     alloc: Global,
     text: &[u8],
     labels: &[Label],
     most: usize,
 ) -> Result<Vec<ReadFault>, AllocError>
     requires { length text.now ≤ MOST_BYTES }
-    ensures { IfOk result (λ faults. map refusal_of faults.items ≡ take most (walked_faults labels.now 1 (lines_of text.now) no_drafts)) }
+    ensures { IfOk result (λ faults. map refusal_of faults.items ≡ take most (walked_faults isa labels.now 1 (lines_of text.now) no_drafts)) }
 {
     let mut faults = Vec::new(alloc);
     let mut reader = TextReader::new(alloc);
@@ -108,7 +111,7 @@ fn line_faults(
         if faults.len() >= most {
             return Ok(faults);
         }
-        let fault = line_fault(&mut reader, alloc, labels, number, line)?;
+        let fault = line_fault(isa, &mut reader, alloc, labels, number, line)?;
         push_fault(&mut faults, number, fault)?;
         number += 1;
         rest = after;
@@ -123,9 +126,14 @@ fn line_faults(
 /// # Errors
 ///
 /// `AllocError` where memory ran out.
-pub fn faults_of(alloc: Global, text: &[u8], most: usize) -> Result<Vec<ReadFault>, AllocError>
+pub fn faults_of(
+    isa: InstructionSet,
+    alloc: Global,
+    text: &[u8],
+    most: usize,
+) -> Result<Vec<ReadFault>, AllocError>
     requires { 1 ≤ most }
-    ensures { IfOk result (λ faults. map refusal_of faults.items ≡ take most (faults_in text.now)) }
+    ensures { IfOk result (λ faults. map refusal_of faults.items ≡ take most (faults_in isa text.now)) }
 {
     if text.len() > MOST_BYTES {
         let mut faults = Vec::new(alloc);
@@ -133,5 +141,5 @@ pub fn faults_of(alloc: Global, text: &[u8], most: usize) -> Result<Vec<ReadFaul
         return Ok(faults);
     }
     let labels = labels_in(alloc, text)?;
-    line_faults(alloc, text, &labels, most)
+    line_faults(isa, alloc, text, &labels, most)
 }

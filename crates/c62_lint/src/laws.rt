@@ -1,5 +1,6 @@
 //! Laws of the faults of a text.
 
+ghost use Rattle.c62_op.specs.declared.set.InstructionSet.{InstructionSet};
 ghost use Rattle.std.specs.Prelude.{ℕ, List};
 ghost use Rattle.c62_lint.specs.Laws.{FirstIsTheRefusal};
 
@@ -7,5 +8,5 @@ ghost use Rattle.c62_lint.specs.Laws.{FirstIsTheRefusal};
 /// is read.
 #[tactic(auto, using(crate::proofs::FaultLemmas::first_refusal))]
 pub fn first_is_the_refusal()
-    ensures { (text : List ℕ) → FirstIsTheRefusal text }
+    ensures { (isa : InstructionSet) (text : List ℕ) → FirstIsTheRefusal isa text }
 {}

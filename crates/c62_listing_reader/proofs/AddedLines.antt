@@ -12,6 +12,7 @@ use Rattle.c62_listing_reader.proofs.FineBlocks.{go}
 use Rattle.c62_listing_reader.proofs.NamedLemmas.{aims}
 use Rattle.c62_listing_reader.proofs.DraftLines.{part_text, idle_of, next_last, does_text, jumps_text, Adds, pause_adds}
 use Rattle.c62_listing_reader.proofs.DraftLines.{first_adds, beside_adds}
+use Rattle.c62_op.specs.declared.set.InstructionSet.{InstructionSet}
 unfoldable use Rattle.c62_listing_reader.proofs.DraftLines.{head_lines, next_after}
 
 -- ---- a line of a block
@@ -30,12 +31,13 @@ pub record IsReady (front : Front) (draft : Draft) : Type 0 where
   pub low : next_after 0 draft.placed ≤ draft.cycles
   pub full : is_beside front ≡ true → (next_after 0 draft.placed ≡ draft.cycles) × (0 < draft.cycles)
 
-issue_adds : (name : ℕ
+issue_adds : InstructionSet → (name : ℕ
     → List ℕ) (front : Front) (number : ℕ) (draft : Draft) (said parts : Parts) (target : Name) (bytes : List ℕ)
     → IsReady front draft → is_text bytes (issue_line front target said said.unit) ≡ true → parts.unit ≡ said.unit
     → ((unit : FunctionalUnit) → parts_spelling (λ _. target) said unit ≡ parts_spelling name parts unit)
     → Adds name draft bytes (with_part (is_beside front) parts number draft)
-issue_adds name front number draft said parts target bytes ready spelled unit text = go said.unit refl (is_beside front)
+issue_adds isa name front number draft said parts target bytes ready spelled unit text =
+    go said.unit refl (is_beside front)
     refl
   where
     go : (found : Option FunctionalUnit) → said.unit ≡ found → (beside : Bool) → is_beside front ≡ beside
@@ -70,7 +72,7 @@ part_idle false parts number draft some = omega (arith, next_last)
 nothing_said : (front : Front) (bytes : List ℕ) → is_gap front ≡ false → is_text bytes (empty_line front) ≡ true → ⊥
 nothing_said front bytes gap spelled = grind (arith, nat_tests)
 
-module _ (name : ℕ → List ℕ) (labels : List Name) (aim : Name → ℕ)
+module _ (isa : InstructionSet) (name : ℕ → List ℕ) (labels : List Name) (aim : Name → ℕ)
     (aims : (target : Name) → is_among target labels ≡ true → name (aim target) ≡ target) where
   -- a line that goes on with a block
   plain_on : (front : Front) (number : ℕ) (says : Says) (draft : Draft) (above : Above) (bytes : List ℕ)
@@ -88,12 +90,12 @@ module _ (name : ℕ → List ℕ) (labels : List Name) (aim : Name → ℕ)
         (arith, idle pauses, ready.low, more, short.1));
   }
   plain_on front number (Does parts) draft above bytes gap spelled short proper known pauses idle ready = record {
-    adds = issue_adds name front number draft parts parts [] bytes ready spelled refl
+    adds = issue_adds isa name front number draft parts parts [] bytes ready spelled refl
         (λ unit. does_text (λ _. []) name parts unit proper);
     idle = λ next. part_idle (is_beside front) parts number draft (λ beside. (ready.full beside).1);
   }
   plain_on front at (Jumps parts target) draft above bytes gap spelled short proper known pauses idle ready = record {
-    adds = issue_adds name front at draft parts (jump_to aim parts target) target bytes ready spelled refl
+    adds = issue_adds isa name front at draft parts (jump_to aim parts target) target bytes ready spelled refl
         (λ unit. jumps_text name aim parts target unit proper.1
         (aims target (not_false (is_among target labels) known)));
     idle = λ next. part_idle (is_beside front) (jump_to aim parts target) at draft

@@ -18,18 +18,21 @@ use Rattle.c62_read.specs.declared.limits.TheConstants.{MOST_BLOCKS, MOST_INSTRU
 use Rattle.c62_packet.specs.declared.limits.TheConstants.{MOST_CYCLES}
 use Rattle.c62_listing_reader.proofs.LeadingLines.{Leads, then_lines, plain_line, unlined, key_of, IsAt, is_calm, IsIn}
 use Rattle.c62_listing_reader.proofs.LeadingLines.{IsCalm, idle_leads}
+use Rattle.c62_op.specs.Takes.{takes_in}
+use Rattle.c62_op.specs.declared.set.InstructionSet.{InstructionSet}
 
 -- ---- an instruction
 
 -- its unit takes its operands, and a branch goes by a label
-pub record IsWritable (name : ℕ → List ℕ) (p : Placed) : Type 0 where
-  pub taking : takes (op_of p.insn) (operands_of p.insn) p.unit ≡ true
+pub record IsWritable (isa : InstructionSet) (name : ℕ → List ℕ) (p : Placed) : Type 0 where
+  pub taking : takes_in isa (op_of p.insn) (operands_of p.insn) p.unit ≡ true
   pub names : NamesTarget name (operands_of p.insn)
 
 -- the same, and a branch goes to a label that stands for its block
-pub record IsSayable (name : ℕ → List ℕ) (labels : List Name) (aim : Name → ℕ) (p : Placed) : Type 0 where
+pub record IsSayable (isa : InstructionSet) (name : ℕ → List ℕ) (labels : List Name) (aim : Name → ℕ)
+    (p : Placed) : Type 0 where
   pub written : unit_of p.insn ≡ Some p.unit
-  pub writable : IsWritable name p
+  pub writable : IsWritable isa name p
   pub known : (number : ℕ) → operands_of p.insn ≡ Block number → is_among (name number) labels ≡ true
   pub aimed : (number : ℕ) → operands_of p.insn ≡ Block number → aim (name number) ≡ number
 
@@ -42,11 +45,12 @@ record IsSaying (labels : List Name) (aim : Name → ℕ) (p : Placed) (says : S
       → with_says aim beside line says draft ≡ with_part beside (parts_of p.insn) line draft
   pub above : above_of says ≡ Issue (Some p.unit)
 
-saying_by : (name : ℕ → List ℕ) (labels : List Name) (aim : Name → ℕ) (p : Placed) (operands : Operands)
-    → IsSayable name labels aim p
+saying_by : (isa : InstructionSet) (name : ℕ → List ℕ) (labels : List Name) (aim : Name → ℕ) (p : Placed)
+    (operands : Operands)
+    → IsSayable isa name labels aim p
     → operands_of p.insn ≡ operands
     → IsSaying labels aim p (says_with name (parts_on p.insn p.unit) operands)
-saying_by name labels aim p operands is to = record {
+saying_by isa name labels aim p operands is to = record {
   known = grind (arith, nat_tests, is.known);
   unit = grind arith;
   pauses = λ above. grind arith;
@@ -55,11 +59,12 @@ saying_by name labels aim p operands is to = record {
   above = grind arith;
 }
 
-saying : (name : ℕ → List ℕ) (labels : List Name) (aim : Name → ℕ) (p : Placed) → IsSayable name labels aim p
+saying : (isa : InstructionSet) (name : ℕ → List ℕ) (labels : List Name) (aim : Name → ℕ) (p : Placed)
+    → IsSayable isa name labels aim p
     → IsSaying labels aim p (says_on name p.insn p.unit)
-saying name labels aim p is = saying_by name labels aim p (operands_of p.insn) is refl
+saying isa name labels aim p is = saying_by isa name labels aim p (operands_of p.insn) is refl
 
-module _ (name : ℕ → List ℕ) (labels : List Name) (aim : Name
+module _ (isa : InstructionSet) (name : ℕ → List ℕ) (labels : List Name) (aim : Name
     → ℕ) (done : List Draft) (few : length done < MOST_BLOCKS) (label : Option Name) where
   -- an instruction stands in the line above, behind others
   pub record IsOver (placed : List Placed) (p : Placed) (drafts : Drafts) (above : Above) : Type 0 where
@@ -107,16 +112,17 @@ module _ (name : ℕ → List ℕ) (labels : List Name) (aim : Name
       (below : List Line)
       → is_gap front ≡ false → is_misplaced front above ≡ false
       → (is_beside front && precedes (Some p.unit) (unit_above above)) ≡ false
-      → IsPlain (front_spelling front ++ spelling name p.insn p.unit) front (says_on name p.insn p.unit)
-      → IsSayable name labels aim p
+      → IsPlain isa (front_spelling front ++ spelling name p.insn p.unit) front (says_on name p.insn p.unit)
+      → IsSayable isa name labels aim p
       → IsIn done label (p.cycle + (if is_beside front then 1 else 0)) placed drafts above
       → length placed < MOST_INSTRUCTIONS → p.cycle + 1 ≤ MOST_CYCLES
-      → Leads labels aim number drafts above ((front_spelling front ++ spelling name p.insn p.unit) ∷ []) below
+      → Leads isa labels aim number drafts above ((front_spelling front ++ spelling name p.insn p.unit) ∷ []) below
       (IsOver placed p)
   issue_leads front placed p number drafts above below gap well order plain sayable is room short =
       let says : Says = says_on name p.insn p.unit in
-      let of = saying name labels aim p sayable in
-      plain_line labels aim number drafts above (front_spelling front ++ spelling name p.insn p.unit) front says below
+      let of = saying isa name labels aim p sayable in
+      plain_line isa labels aim number drafts above
+      (front_spelling front ++ spelling name p.insn p.unit) front says below
       (IsOver placed p) plain (record {
         placed = well;
         known = of.known;
@@ -135,21 +141,21 @@ unfoldable pub AreBehind : Placed → List Placed → Type 0
 AreBehind q [] = Unit {0}
 AreBehind q (p ∷ placed) = (listing_position q ≤ listing_position p) × AreBehind p placed
 
-module _ (name : ℕ → List ℕ) (labels : List Name) (aim : Name
+module _ (isa : InstructionSet) (name : ℕ → List ℕ) (labels : List Name) (aim : Name
     → ℕ) (done : List Draft) (few : length done < MOST_BLOCKS) (label : Option Name) where
   abbrev In : ℕ → List Placed → Drafts → Above → Type 0
   In cycles placed = IsIn done label cycles placed
 
   abbrev Over : List Placed → Placed → Drafts → Above → Type 0
-  Over placed p = IsOver name labels aim done few label placed p
+  Over placed p = IsOver isa name labels aim done few label placed p
 
   -- an instruction, with the cycles before it
   placed_by : (b : Bool) (cycles : ℕ) (placed : List Placed) (p : Placed) (number : ℕ) (drafts : Drafts) (above : Above)
       (below : List Line)
-      → nat_lt p.cycle cycles ≡ b → IsSayable name labels aim p → IsCalm done label cycles placed drafts above
+      → nat_lt p.cycle cycles ≡ b → IsSayable isa name labels aim p → IsCalm done label cycles placed drafts above
       → (b ≡ true → (unit : FunctionalUnit) × (cycles ≡ p.cycle + 1) × (above ≡ Issue (Some unit))
       × (index_of unit ≤ index_of p.unit))
-      → length placed < MOST_INSTRUCTIONS → p.cycle + 1 ≤ MOST_CYCLES → Leads labels aim number drafts above
+      → length placed < MOST_INSTRUCTIONS → p.cycle + 1 ≤ MOST_CYCLES → Leads isa labels aim number drafts above
       (if b then (codes "|| " ++ spelling name p.insn p.unit) ∷ [] else idle_lines (p.cycle - cycles) ++
       (codes "   " ++ spelling name p.insn p.unit) ∷ []) below (Over placed p)
   placed_by true cycles placed p number drafts above below less sayable is over room short =
@@ -157,22 +163,23 @@ module _ (name : ℕ → List ℕ) (labels : List Name) (aim : Name
       let order : precedes (Some p.unit) (unit_above above) ≡ false =
       ap (λ (a : Above). precedes (Some p.unit) (unit_above a)) unit.2
       ∙ le-ltb (index_of p.unit) (index_of unit.0) unit.3 in
-      issue_leads name labels aim done few label Beside placed p number drafts above below refl
+      issue_leads isa name labels aim done few label Beside placed p number drafts above below refl
       (ap not (ap is_issue unit.2)) order
-      (beside_plain name p.insn p.unit sayable.writable.taking sayable.writable.names) sayable
+      (beside_plain isa name p.insn p.unit sayable.writable.taking sayable.writable.names) sayable
       (subst (λ (c : ℕ). In c placed drafts above) unit.1 is.is) room short
   placed_by false cycles placed p number drafts above below less sayable is over room short =
       let low : cycles ≤ p.cycle = ltb-false p.cycle cycles less in
       let at : cycles + (p.cycle - cycles) ≡ p.cycle + 0 = omega (arith, low) in
       let line : List (List ℕ) = (codes "   " ++ spelling name p.insn p.unit) ∷ [] in
-      then_lines labels aim number drafts above (idle_lines (p.cycle - cycles)) line below
+      then_lines isa labels aim number drafts above (idle_lines (p.cycle - cycles)) line below
       (In (cycles + (p.cycle - cycles)) placed)
       (Over placed p)
-      (idle_leads labels aim done few label placed (p.cycle - cycles) cycles number drafts above (map fed line ++ below)
+      (idle_leads isa labels aim done few label placed (p.cycle - cycles) cycles number drafts above
+      (map fed line ++ below)
       is
       (omega (arith, at, short)))
-      (λ n d a is_in. issue_leads name labels aim done few label First placed p n d a below refl refl refl
-      (first_plain name p.insn p.unit sayable.writable.taking sayable.writable.names) sayable
+      (λ n d a is_in. issue_leads isa name labels aim done few label First placed p n d a below refl refl refl
+      (first_plain isa name p.insn p.unit sayable.writable.taking sayable.writable.names) sayable
       (subst (λ (c : ℕ). In c placed d a) at is_in) room short)
 
   over_calm : (before : List Placed) (q : Placed) (drafts : Drafts) (above : Above) → Over before q drafts above
@@ -185,17 +192,17 @@ module _ (name : ℕ → List ℕ) (labels : List Name) (aim : Name
   -- behind an instruction
   cycles_lead : (rest before : List Placed) (q : Placed) (cycles number : ℕ) (drafts : Drafts) (above : Above)
       (below : List Line)
-      → All (IsSayable name labels aim) rest → AreBehind q rest → All (λ p. p.cycle + 1 ≤ cycles) rest
+      → All (IsSayable isa name labels aim) rest → AreBehind q rest → All (λ p. p.cycle + 1 ≤ cycles) rest
       → length before + 1 + length rest ≤ MOST_INSTRUCTIONS
       → cycles ≤ MOST_CYCLES → q.cycle + 1 ≤ cycles → Over before q drafts above
-      → Leads labels aim number drafts above (cycle_lines name (q.cycle + 1) cycles rest) below
+      → Leads isa labels aim number drafts above (cycle_lines name (q.cycle + 1) cycles rest) below
       (In cycles (before ++ q ∷ rest))
   unfolding AreBehind
   cycles_lead [] before q cycles number drafts above below sayable order within room short low over =
       let at : (q.cycle + 1) + (cycles - (q.cycle + 1)) ≡ cycles = omega (arith, low) in
-      subst (λ (c : ℕ). Leads labels aim number drafts above (idle_lines (cycles - (q.cycle + 1))) below
+      subst (λ (c : ℕ). Leads isa labels aim number drafts above (idle_lines (cycles - (q.cycle + 1))) below
       (In c (before ++ q ∷ []))) at
-      (idle_leads labels aim done few label (before ++ q ∷ []) (cycles - (q.cycle + 1)) (q.cycle + 1) number drafts
+      (idle_leads isa labels aim done few label (before ++ q ∷ []) (cycles - (q.cycle + 1)) (q.cycle + 1) number drafts
       above below
       (over_calm before q drafts above over) (omega (arith, at, short)))
   cycles_lead (p ∷ rest) before q cycles number drafts above below sayable order within room short low over =
@@ -212,27 +219,29 @@ module _ (name : ℕ → List ℕ) (labels : List Name) (aim : Name
       (λ less. (q.unit, omega (arith, same_cycle less), over.last, omega (arith, same_cycle less, order.0)))
       (omega (arith, one, room))
       (omega (arith, here, short)) in
-      subst (λ (placed : List Placed). Leads labels aim number drafts above
+      subst (λ (placed : List Placed). Leads isa labels aim number drafts above
       (cycle_lines name (q.cycle + 1) cycles (p ∷ rest)) below
       (In cycles placed)) (append_assoc before (q ∷ []) (p ∷ rest))
-      (then_lines labels aim number drafts above _ (cycle_lines name (p.cycle + 1) cycles rest) below (Over so_far p)
+      (then_lines isa labels aim number drafts above _ (cycle_lines name (p.cycle + 1) cycles rest) below
+      (Over so_far p)
       (In cycles (so_far ++ p ∷ rest)) first
-      (λ n d a next. cycles_lead rest so_far p cycles n d a below (All-tail (IsSayable name labels aim) p rest sayable)
+      (λ n d a next. cycles_lead rest so_far p cycles n d a below
+      (All-tail (IsSayable isa name labels aim) p rest sayable)
       order.1
       (All-tail (λ (r : Placed). r.cycle + 1 ≤ cycles) p rest within)
       (omega (arith, one, room)) short here next))
 
   -- from the first cycle
   pub start_leads : (placed : List Placed) (cycles number : ℕ) (drafts : Drafts) (above : Above) (below : List Line)
-      → All (IsSayable name labels aim) placed
+      → All (IsSayable isa name labels aim) placed
       → ((p : Placed) (rest : List Placed) → placed ≡ p ∷ rest → AreBehind p rest)
       → All (λ p. p.cycle + 1 ≤ cycles) placed → length placed ≤ MOST_INSTRUCTIONS → cycles ≤ MOST_CYCLES
       → IsCalm done label 0 [] drafts above
-      → Leads labels aim number drafts above (cycle_lines name 0 cycles placed) below (In cycles placed)
+      → Leads isa labels aim number drafts above (cycle_lines name 0 cycles placed) below (In cycles placed)
   start_leads [] cycles number drafts above below sayable order within room short is =
       let at : 0 + (cycles - 0) ≡ cycles = omega arith in
-      subst (λ (c : ℕ). Leads labels aim number drafts above (idle_lines (cycles - 0)) below (In c [])) at
-      (idle_leads labels aim done few label [] (cycles - 0) 0 number drafts above below is (omega (arith, short)))
+      subst (λ (c : ℕ). Leads isa labels aim number drafts above (idle_lines (cycles - 0)) below (In c [])) at
+      (idle_leads isa labels aim done few label [] (cycles - 0) 0 number drafts above below is (omega (arith, short)))
   start_leads (p ∷ rest) cycles number drafts above below sayable order within room short is =
       let here : p.cycle + 1 ≤ cycles = within 0 p (omega arith) in
       let first = placed_by (nat_lt p.cycle 0) 0 [] p number drafts above
@@ -240,9 +249,9 @@ module _ (name : ℕ → List ℕ) (labels : List Name) (aim : Name
       (sayable 0 p (omega arith)) is (λ less. (let lt = ltb-true p.cycle 0 less in absurd (omega (arith, lt))))
       (omega arith)
       (omega (arith, here, short)) in
-      then_lines labels aim number drafts above _ (cycle_lines name (p.cycle + 1) cycles rest) below (Over [] p)
+      then_lines isa labels aim number drafts above _ (cycle_lines name (p.cycle + 1) cycles rest) below (Over [] p)
       (In cycles (p ∷ rest)) first
-      (λ n d a next. cycles_lead rest [] p cycles n d a below (All-tail (IsSayable name labels aim) p rest sayable)
+      (λ n d a next. cycles_lead rest [] p cycles n d a below (All-tail (IsSayable isa name labels aim) p rest sayable)
       (order p rest refl)
       (All-tail (λ (r : Placed). r.cycle + 1 ≤ cycles) p rest within)
       (omega (arith, room)) short here next)

@@ -18,6 +18,7 @@ use Rattle.c62_listing_reader.proofs.NamedLemmas.{aims, labels_in}
 use Rattle.c62_listing_reader.proofs.ToldLemmas.{begun, over, if_err}
 use Rattle.c62_listing_reader.proofs.ToldLines.{is_proper}
 use Rattle.std.proofs.lemmas.Simd.{map-map}
+use Rattle.c62_op.specs.declared.set.InstructionSet.{InstructionSet}
 
 -- ---- branches
 
@@ -39,7 +40,7 @@ label_stands : (labels : List (Option Name)) (label : Option Name) (draft : Draf
     → stand_in labels (with_label label draft) ≡ true
 label_stands labels label draft is = grind (arith, nat_tests)
 
-module _ (labels : List (Option Name)) (names : List Name) (aim : Name → ℕ)
+module _ (isa : InstructionSet) (labels : List (Option Name)) (names : List Name) (aim : Name → ℕ)
     (aims : (target : Name) → is_among target names ≡ true → is_labelled (slice_get labels (aim target)) ≡ true) where
   says_stand : (beside : Bool) (line : ℕ) (says : Says) (draft : Draft) → IsProper says → is_unknown names says ≡ false
       → stand_in labels draft ≡ true
@@ -62,13 +63,14 @@ module _ (labels : List (Option Name)) (names : List Name) (aim : Name → ℕ)
 
   all_stand : (number : ℕ) (drafts : Drafts) (above : Above) (lines : List Line) (final : Drafts)
       → list_all (stand_in labels) (all_drafts drafts) ≡ true
-      → read_lines names aim number drafts above lines ≡ Ok final → list_all (stand_in labels) (all_drafts final) ≡ true
-  all_stand number drafts above [] final all h = rw (← over names aim number drafts above final h) all
+      → read_lines isa names aim number drafts above lines ≡ Ok final
+      → list_all (stand_in labels) (all_drafts final) ≡ true
+  all_stand number drafts above [] final all h = rw (← over isa names aim number drafts above final h) all
   all_stand number drafts above (line ∷ below) final all h =
-      let start = begun names aim number drafts above line below final h in
+      let start = begun isa names aim number drafts above line below final h in
       let said : Said = start.said in
       all_stand (number + 1) (with_said aim number said drafts) (above_next said.front said.says) below final
-      (said_stands number said drafts (is_proper names drafts above line below said start.is) start.is.known all)
+      (said_stands number said drafts (is_proper isa names drafts above line below said start.is) start.is.known all)
       start.others
 
 -- ---- the packets
@@ -89,20 +91,21 @@ pub labels_same : (packets : List Packed) → packet_labels packets ≡ labels_i
 labels_same packets = sym (map-map (λ (draft : Draft). draft.label) draft_of packets)
 
 -- packets that are read of a text branch to blocks that are there and have labels
-pub read_closed : (text : List ℕ) (packets : List Packed) → IsRead text packets → is_closed packets ≡ true
-read_closed text packets is =
+pub read_closed : (isa : InstructionSet) (text : List ℕ) (packets : List Packed) → IsRead isa text packets
+    → is_closed packets ≡ true
+read_closed isa text packets is =
     let final : Drafts = is.drafts in
     let lines : List Line = lines_in text in
     let entries : List (Name × ℕ) = names_in 0 (contents text) in
     let read = (if_err (nat_lt most_bytes (length text)) _ _ final is.said).1 in
     let stand : list_all (stand_in (labels_in (all_drafts final))) (all_drafts final) ≡ true =
-    all_stand (labels_in (all_drafts final)) (labels_of entries)
-    (aim_by entries) (λ target known. ap is_labelled (aims lines final read target known))
+    all_stand isa (labels_in (all_drafts final)) (labels_of entries)
+    (aim_by entries) (λ target known. ap is_labelled (aims isa lines final read target known))
     1 no_drafts Start lines final refl read in
     rw (packets_stand (packet_labels packets) packets, labels_same packets, is.blocks) stand
 
-pub closed_if : (text : List ℕ) (r : Result (List Packed) ListFault)
-    → MatchResult r (λ packets. IsRead text packets) (λ fault. Refuses text fault)
+pub closed_if : (isa : InstructionSet) (text : List ℕ) (r : Result (List Packed) ListFault)
+    → MatchResult r (λ packets. IsRead isa text packets) (λ fault. Refuses isa text fault)
     → IfOk r (λ packets. IsTrue (is_closed packets))
-closed_if text (Ok packets) is = read_closed text packets is
-closed_if text (Err fault) is = tt
+closed_if isa text (Ok packets) is = read_closed isa text packets is
+closed_if isa text (Err fault) is = tt

@@ -22,6 +22,7 @@ use Rattle.c62_listing_reader.specs.Reading.{HasUnit}
 use Rattle.c62_listing_reader.proofs.ToldLemmas.{IsTold}
 use Rattle.c62_read.specs.declared.limits.TheConstants.{MOST_BLOCKS, MOST_INSTRUCTIONS}
 use Rattle.c62_packet.specs.declared.limits.TheConstants.{MOST_CYCLES}
+use Rattle.c62_op.specs.declared.set.InstructionSet.{InstructionSet}
 
 -- the last instruction is the one that the line above says, and stands in the last cycle written
 pub record EndsWith (unit : Option FunctionalUnit) (draft : Draft) : Type 0 where
@@ -195,11 +196,11 @@ beside_ends front (Some label) (Some draft) above placed outside closed follows 
 beside_ends front None (Some draft) above placed outside closed follows is =
     issue_ends above draft (beside_issue front above placed is) (follows draft refl)
 
-pub go : (labels : List Name) (aim : Name
+pub go : (isa : InstructionSet) (labels : List Name) (aim : Name
     → ℕ) (number : ℕ) (said : Said) (drafts : Drafts) (above : Above) (line : Line) (below : List Line)
-    → IsGoing drafts above → IsTold labels drafts above line below said
+    → IsGoing drafts above → IsTold isa labels drafts above line below said
     → IsGoing (with_said aim number said drafts) (above_next said.front said.says)
-go labels aim number said drafts above line below going is = by_gap (is_gap said.front) refl
+go isa labels aim number said drafts above line below going is = by_gap (is_gap said.front) refl
   where
     by_gap : (gap : Bool) → is_gap said.front ≡ gap
         → IsGoing (if gap then ended drafts else record

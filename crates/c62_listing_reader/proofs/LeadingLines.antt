@@ -16,50 +16,52 @@ use Rattle.c62_listing_reader.proofs.UntoldLemmas.{IsPlain, fed_content, fed_end
 use Rattle.c62_listing_reader.specs.Faults.{line_says}
 use Rattle.c62_read.specs.declared.limits.TheConstants.{MOST_BLOCKS, MOST_INSTRUCTIONS}
 use Rattle.c62_packet.specs.declared.limits.TheConstants.{MOST_CYCLES}
+use Rattle.c62_op.specs.declared.set.InstructionSet.{InstructionSet}
 
 -- ---- lines that lead on
 
 -- reading these lines leads to blocks and a last line that are such
-pub record Leads (labels : List Name) (aim : Name
+pub record Leads (isa : InstructionSet) (labels : List Name) (aim : Name
     → ℕ) (number : ℕ) (drafts : Drafts) (above : Above) (lines : List (List ℕ)) (below : List Line)
     (Is : Drafts → Above → Type 0) : Type 0 where
   pub end : ℕ
   pub final : Drafts
   pub last : Above
-  pub reads : read_lines labels aim number drafts above (map fed lines ++ below) ≡ read_lines labels aim end final last
+  pub reads : read_lines isa labels aim number drafts above (map fed lines ++ below)
+      ≡ read_lines isa labels aim end final last
       below
   pub is : Is final last
 
-pub no_lines : (labels : List Name) (aim : Name
+pub no_lines : (isa : InstructionSet) (labels : List Name) (aim : Name
     → ℕ) (number : ℕ) (drafts : Drafts) (above : Above) (below : List Line) (Is : Drafts → Above → Type 0)
     → Is drafts above
-    → Leads labels aim number drafts above [] below Is
-no_lines labels aim number drafts above below Is is = record
+    → Leads isa labels aim number drafts above [] below Is
+no_lines isa labels aim number drafts above below Is is = record
     { end = number; final = drafts; last = above; reads = refl; is = is }
 
-pub then_lines : (labels : List Name) (aim : Name
+pub then_lines : (isa : InstructionSet) (labels : List Name) (aim : Name
     → ℕ) (number : ℕ) (drafts : Drafts) (above : Above) (lines more : List (List ℕ)) (below : List Line)
-    (Is To : Drafts → Above → Type 0) → Leads labels aim number drafts above lines (map fed more ++ below) Is
-    → ((n : ℕ) (d : Drafts) (a : Above) → Is d a → Leads labels aim n d a more below To)
-    → Leads labels aim number drafts above (lines ++ more) below To
-then_lines labels aim number drafts above lines more below Is To first next =
+    (Is To : Drafts → Above → Type 0) → Leads isa labels aim number drafts above lines (map fed more ++ below) Is
+    → ((n : ℕ) (d : Drafts) (a : Above) → Is d a → Leads isa labels aim n d a more below To)
+    → Leads isa labels aim number drafts above (lines ++ more) below To
+then_lines isa labels aim number drafts above lines more below Is To first next =
     let second = next first.end first.final first.last first.is in
-    let reads : read_lines labels aim number drafts above (map fed (lines ++ more) ++ below)
-    ≡ read_lines labels aim second.end second.final second.last below =
+    let reads : read_lines isa labels aim number drafts above (map fed (lines ++ more) ++ below)
+    ≡ read_lines isa labels aim second.end second.final second.last below =
     rw (map-append fed lines more, append_assoc (map fed lines) (map fed more) below) (first.reads ∙ second.reads) in
     record { end = second.end; final = second.final; last = second.last; reads = reads; is = second.is }
 
-pub one_line : (labels : List Name) (aim : Name
+pub one_line : (isa : InstructionSet) (labels : List Name) (aim : Name
     → ℕ) (number : ℕ) (drafts : Drafts) (above : Above) (bytes : List ℕ) (below : List Line) (said : Said)
     (Is : Drafts → Above → Type 0)
-    → line_says labels drafts above (fed bytes) below ≡ Ok said
+    → line_says isa labels drafts above (fed bytes) below ≡ Ok said
     → Is (with_said aim number said drafts) (above_next said.front said.says)
-    → Leads labels aim number drafts above (bytes ∷ []) below Is
-one_line labels aim number drafts above bytes below said Is says is = record {
+    → Leads isa labels aim number drafts above (bytes ∷ []) below Is
+one_line isa labels aim number drafts above bytes below said Is says is = record {
   end = number + 1;
   final = with_said aim number said drafts;
   last = above_next said.front said.says;
-  reads = sym (reads_on labels aim number (fed bytes) below (fed bytes ∷ below) drafts above said refl says);
+  reads = sym (reads_on isa labels aim number (fed bytes) below (fed bytes ∷ below) drafts above said refl says);
   is = is;
 }
 
@@ -75,15 +77,16 @@ pub record IsWelcome (labels : List Name) (drafts : Drafts) (above : Above) (fro
   pub gap : is_gap front ≡ false
   pub short : (opened drafts.current).cycles + cycles_added (is_beside front) says ≤ MOST_CYCLES
 
-plain_said : (labels : List Name) (drafts : Drafts) (above : Above) (bytes : List ℕ) (front : Front) (says : Says)
+plain_said : (isa : InstructionSet) (labels : List Name) (drafts : Drafts) (above : Above) (bytes : List ℕ)
+    (front : Front) (says : Says)
     (below : List Line)
-    → IsPlain bytes front says → IsWelcome labels drafts above front says
-    → line_says labels drafts above (fed bytes) below ≡ Ok (record { front = front; label = None; says = says })
-plain_said labels drafts above bytes front says below plain welcome =
+    → IsPlain isa bytes front says → IsWelcome labels drafts above front says
+    → line_says isa labels drafts above (fed bytes) below ≡ Ok (record { front = front; label = None; says = says })
+plain_said isa labels drafts above bytes front says below plain welcome =
     let same : bytes ≡ content (fed bytes) = sym (fed_content bytes plain.allowed) in
-    let field = line_read (rest_of front bytes) None says plain.line in
-    let read : rest_says drafts (rest_of front bytes) ≡ Ok (None, says) = rw (plain.line, field.field) refl in
-    untold labels drafts above (fed bytes) below (record { front = front; label = None; says = says }) (record {
+    let field = line_read isa (rest_of front bytes) None says plain.line in
+    let read : rest_says isa drafts (rest_of front bytes) ≡ Ok (None, says) = rw (plain.line, field.field) refl in
+    untold isa labels drafts above (fed bytes) below (record { front = front; label = None; says = says }) (record {
       front = plain.begins ∙ ap front_of same;
       allowed = rw (← same) plain.allowed;
       fits = rw (← same) plain.fits;
@@ -102,15 +105,15 @@ plain_said labels drafts above bytes front says below plain welcome =
       short = welcome.short;
     })
 
-pub plain_line : (labels : List Name) (aim : Name
+pub plain_line : (isa : InstructionSet) (labels : List Name) (aim : Name
     → ℕ) (number : ℕ) (drafts : Drafts) (above : Above) (bytes : List ℕ) (front : Front) (says : Says)
-    (below : List Line) (Is : Drafts → Above → Type 0) → IsPlain bytes front says
+    (below : List Line) (Is : Drafts → Above → Type 0) → IsPlain isa bytes front says
     → IsWelcome labels drafts above front says
     → Is (with_said aim number (record { front = front; label = None; says = says }) drafts) (above_next front says)
-    → Leads labels aim number drafts above (bytes ∷ []) below Is
-plain_line labels aim number drafts above bytes front says below Is plain welcome is =
-    one_line labels aim number drafts above bytes below (record { front = front; label = None; says = says }) Is
-    (plain_said labels drafts above bytes front says below plain welcome) is
+    → Leads isa labels aim number drafts above (bytes ∷ []) below Is
+plain_line isa labels aim number drafts above bytes front says below Is plain welcome is =
+    one_line isa labels aim number drafts above bytes below (record { front = front; label = None; says = says }) Is
+    (plain_said isa labels drafts above bytes front says below plain welcome) is
 
 -- ---- a block that is being read
 
@@ -151,16 +154,17 @@ pub record IsCalm (done : List Draft) (label : Option Name) (cycles : ℕ) (plac
   pub is : IsIn done label cycles placed drafts above
   pub calm : is_calm above ≡ true
 
-module _ (labels : List Name) (aim : Name
+module _ (isa : InstructionSet) (labels : List Name) (aim : Name
     → ℕ) (done : List Draft) (few : length done < MOST_BLOCKS) (label : Option Name) (placed : List Placed) where
   pause_leads : (n cycles number : ℕ) (drafts : Drafts) (above : Above) (below : List Line) (Is : Drafts → Above
       → Type 0)
       → IsCalm done label cycles placed drafts above → 1 ≤ n → n ≤ 9 → cycles + n ≤ MOST_CYCLES
       → ((d : Drafts) → IsIn done label (cycles + n) placed d (PauseAbove n) → Is d (PauseAbove n))
-      → Leads labels aim number drafts above (pause_line n ∷ []) below Is
+      → Leads isa labels aim number drafts above (pause_line n ∷ []) below Is
   pause_leads n cycles number drafts above below Is is some small short then_is =
       let at = is.is.at in
-      plain_line labels aim number drafts above (pause_line n) First (Pause n) below Is (pause_plain n some small)
+      plain_line isa labels aim number drafts above (pause_line n) First (Pause n) below Is
+      (pause_plain isa n some small)
       (record {
         placed = refl;
         known = refl;
@@ -178,14 +182,14 @@ module _ (labels : List Name) (aim : Name
   nines_lead : (nines cycles number : ℕ) (drafts : Drafts) (above : Above) (below : List Line)
       → IsCalm done label cycles placed drafts above
       → cycles + 9 * nines ≤ MOST_CYCLES
-      → Leads labels aim number drafts above (replicate nines (pause_line 9)) below
+      → Leads isa labels aim number drafts above (replicate nines (pause_line 9)) below
       (IsCalm done label (cycles + 9 * nines) placed)
   nines_lead zero cycles number drafts above below is short =
       let same : cycles + 9 * 0 ≡ cycles = omega arith in
-      rw same (no_lines labels aim number drafts above below (IsCalm done label cycles placed) is)
+      rw same (no_lines isa labels aim number drafts above below (IsCalm done label cycles placed) is)
   nines_lead (suc nines) cycles number drafts above below is short =
       let same : cycles + 9 * suc nines ≡ (cycles + 9) + 9 * nines = omega arith in
-      then_lines labels aim number drafts above (pause_line 9 ∷ []) (replicate nines (pause_line 9)) below
+      then_lines isa labels aim number drafts above (pause_line 9 ∷ []) (replicate nines (pause_line 9)) below
       (IsCalm done label (cycles + 9) placed)
       (IsCalm done label (cycles + 9 * suc nines) placed)
       (pause_leads 9 cycles number drafts above (map fed (replicate nines (pause_line 9)) ++ below)
@@ -196,10 +200,10 @@ module _ (labels : List Name) (aim : Name
   rest_leads : (rest cycles number : ℕ) (drafts : Drafts) (above : Above) (below : List Line)
       → IsCalm done label cycles placed drafts above
       → rest < 9 → cycles + rest ≤ MOST_CYCLES
-      → Leads labels aim number drafts above (rest_line rest) below (IsIn done label (cycles + rest) placed)
+      → Leads isa labels aim number drafts above (rest_line rest) below (IsIn done label (cycles + rest) placed)
   rest_leads zero cycles number drafts above below is small short =
       let same : cycles + 0 ≡ cycles = omega arith in
-      rw same (no_lines labels aim number drafts above below (IsIn done label cycles placed) is.is)
+      rw same (no_lines isa labels aim number drafts above below (IsIn done label cycles placed) is.is)
   rest_leads (suc rest) cycles number drafts above below is small short =
       let some : 1 ≤ suc rest = omega arith in
       rw (rest_is (suc rest) some)
@@ -210,13 +214,13 @@ module _ (labels : List Name) (aim : Name
   pub idle_leads : (idle cycles number : ℕ) (drafts : Drafts) (above : Above) (below : List Line)
       → IsCalm done label cycles placed drafts above
       → cycles + idle ≤ MOST_CYCLES
-      → Leads labels aim number drafts above (idle_lines idle) below (IsIn done label (cycles + idle) placed)
+      → Leads isa labels aim number drafts above (idle_lines idle) below (IsIn done label (cycles + idle) placed)
   idle_leads idle cycles number drafts above below is short =
       let nines : ℕ = idle / 9 in
       let rest : ℕ = idle % 9 in
       let all : (cycles + 9 * nines) + rest ≡ cycles + idle = omega arith in
-      then_lines labels aim number drafts above (replicate nines (pause_line 9)) (rest_line rest) below
+      then_lines isa labels aim number drafts above (replicate nines (pause_line 9)) (rest_line rest) below
       (IsCalm done label (cycles + 9 * nines) placed) (IsIn done label (cycles + idle) placed)
       (nines_lead nines cycles number drafts above (map fed (rest_line rest) ++ below) is (omega (arith, short)))
-      (λ n d a at. subst (λ (c : ℕ). Leads labels aim n d a (rest_line rest) below (IsIn done label c placed)) all
+      (λ n d a at. subst (λ (c : ℕ). Leads isa labels aim n d a (rest_line rest) below (IsIn done label c placed)) all
       (rest_leads rest (cycles + 9 * nines) n d a below at (omega arith) (omega (arith, all, short))))

@@ -6,6 +6,7 @@ pub mod ToldLines
 pub mod FineBlocks
 pub mod NamedLemmas
 pub mod ClosedLemmas
+pub mod WithinLemmas
 pub mod DraftLines
 pub mod AddedLines
 pub mod ListedLemmas

@@ -19,59 +19,67 @@ use Rattle.c62_listing_reader.proofs.BackLemmas.{IsWritable}
 use Rattle.c62_listing_reader.proofs.BlocksLemmas.{HasLines, is_line, IsSmall}
 use Rattle.c62_line.specs.Laws.{says_on}
 use Rattle.c62_listing_reader.proofs.NamedLemmas.{at_seam}
+use Rattle.c62_op.specs.declared.set.InstructionSet.{InstructionSet}
 
 -- ---- the lines of a block but its label
 
 abbrev is_plain : List ℕ → Bool
 is_plain bytes = is_line bytes && is_none (label_field bytes)
 
-plain_by : (bytes : List ℕ) (front : Front) (says : Says) → IsPlain bytes front says → is_plain bytes ≡ true
-plain_by bytes front says is = grind (arith, nat_tests)
+plain_by : (isa : InstructionSet) (bytes : List ℕ) (front : Front) (says : Says) → IsPlain isa bytes front says
+    → is_plain bytes ≡ true
+plain_by isa bytes front says is = grind (arith, nat_tests)
 
-nines_plain : (nines : ℕ) → list_all is_plain (replicate nines (pause_line 9)) ≡ true
-nines_plain zero = refl
-nines_plain (suc nines) = grind
-    (arith, plain_by (pause_line 9) First (Pause 9) (pause_plain 9 (omega arith) (omega arith)), nines_plain nines)
+nines_plain : InstructionSet → (nines : ℕ) → list_all is_plain (replicate nines (pause_line 9)) ≡ true
+nines_plain isa zero = refl
+nines_plain isa (suc nines) = grind (
+  arith,
+  plain_by isa (pause_line 9) First (Pause 9)
+      (pause_plain isa 9 (omega arith) (omega arith)),
+  nines_plain isa nines,
+)
 
-rest_plain : (rest : ℕ) → rest < 9 → list_all is_plain (rest_line rest) ≡ true
-rest_plain rest small =
+rest_plain : InstructionSet → (rest : ℕ) → rest < 9 → list_all is_plain (rest_line rest) ≡ true
+rest_plain isa rest small =
     grind (
       arith,
       nat_tests,
-      λ (some : 1 ≤ rest). plain_by (pause_line rest) First (Pause rest)
-          (pause_plain rest some (omega (arith, small))),
+      λ (some : 1 ≤ rest). plain_by isa (pause_line rest) First (Pause rest)
+          (pause_plain isa rest some (omega (arith, small))),
     )
 
-idle_plain : (idle : ℕ) → list_all is_plain (idle_lines idle) ≡ true
-idle_plain idle = grind (
+idle_plain : InstructionSet → (idle : ℕ) → list_all is_plain (idle_lines idle) ≡ true
+idle_plain isa idle = grind (
   arith,
   list_all-append is_plain (replicate (idle / 9) (pause_line 9)),
-  nines_plain (idle / 9),
-  rest_plain
+  nines_plain isa (idle / 9),
+  rest_plain isa
       (idle % 9),
 )
 
-placed_by : (name : ℕ → List ℕ) (b : Bool) (idle : ℕ) (p : Placed) → IsWritable name p → list_all is_plain
+placed_by : (isa : InstructionSet) (name : ℕ → List ℕ) (b : Bool) (idle : ℕ) (p : Placed) → IsWritable isa name p
+    → list_all is_plain
     (if b then (codes "|| " ++ spelling name p.insn p.unit) ∷ [] else idle_lines idle ++
     (codes "   " ++ spelling name p.insn p.unit) ∷ []) ≡ true
-placed_by name b idle p is =
+placed_by isa name b idle p is =
     grind (
       arith,
       nat_tests,
       list_all-append is_plain (idle_lines idle),
-      idle_plain idle,
-      plain_by (codes "|| " ++ spelling name p.insn p.unit) Beside (says_on name p.insn p.unit)
-          (beside_plain name p.insn p.unit is.taking is.names),
-      plain_by (codes "   " ++ spelling name p.insn p.unit) First (says_on name p.insn p.unit)
-          (first_plain name p.insn p.unit is.taking is.names),
+      idle_plain isa idle,
+      plain_by isa (codes "|| " ++ spelling name p.insn p.unit) Beside (says_on name p.insn p.unit)
+          (beside_plain isa name p.insn p.unit is.taking is.names),
+      plain_by isa (codes "   " ++ spelling name p.insn p.unit) First (says_on name p.insn p.unit)
+          (first_plain isa name p.insn p.unit is.taking is.names),
     )
 
-cycles_plain : (name : ℕ → List ℕ) (next cycles : ℕ) (placed : List Placed) → All (IsWritable name) placed
+cycles_plain : (isa : InstructionSet) (name : ℕ → List ℕ) (next cycles : ℕ) (placed : List Placed)
+    → All (IsWritable isa name) placed
     → list_all is_plain (cycle_lines name next cycles placed) ≡ true
-cycles_plain name next cycles [] are = idle_plain (cycles - next)
-cycles_plain name next cycles (p ∷ placed) are =
-    let here = placed_by name (nat_lt p.cycle next) (p.cycle - next) p (are 0 p (omega arith)) in
-    let rest = cycles_plain name (p.cycle + 1) cycles placed (All-tail (IsWritable name) p placed are) in
+cycles_plain isa name next cycles [] are = idle_plain isa (cycles - next)
+cycles_plain isa name next cycles (p ∷ placed) are =
+    let here = placed_by isa name (nat_lt p.cycle next) (p.cycle - next) p (are 0 p (omega arith)) in
+    let rest = cycles_plain isa name (p.cycle + 1) cycles placed (All-tail (IsWritable isa name) p placed are) in
     rw (list_all-append is_plain (placed_lines name next p) (cycle_lines name (p.cycle + 1) cycles placed), here) rest
 
 plain_lines : (lines : List (List ℕ)) → list_all is_plain lines ≡ true → list_all is_line lines ≡ true
@@ -84,9 +92,9 @@ filled_label : (label : Name) → is_empty (label ++ 58 ∷ []) ≡ false
 filled_label [] = refl
 filled_label (b ∷ label) = refl
 
-label_line : (label : Name) → is_label label ≡ true → is_line (label ++ codes ":") ≡ true
-label_line label is =
-    let read = line_read (label ++ codes ":") (Some label) Nothing (label_back label is).0 in
+label_line : InstructionSet → (label : Name) → is_label label ≡ true → is_line (label ++ codes ":") ≡ true
+label_line isa label is =
+    let read = line_read isa (label ++ codes ":") (Some label) Nothing (label_back isa label is).0 in
     grind (arith, nat_tests, read.allowed, filled_label label)
 
 some_cycles : (name : ℕ → List ℕ) (cycles : ℕ) (placed : List Placed) → 0 < length placed
@@ -94,17 +102,18 @@ some_cycles : (name : ℕ → List ℕ) (cycles : ℕ) (placed : List Placed) �
 some_cycles name cycles [] some = absurd (omega (arith, some))
 some_cycles name cycles (p ∷ placed) some = grind (arith, nat_tests, length-append {A = List ℕ})
 
-pub has_lines : (name : ℕ → List ℕ) (block : Packed) → ((l : Name) → block.label ≡ Some l → is_label l ≡ true)
+pub has_lines : (isa : InstructionSet) (name : ℕ → List ℕ) (block : Packed)
+    → ((l : Name) → block.label ≡ Some l → is_label l ≡ true)
     → (block.label ≡ None → 0 < length block.placed)
-    → All (IsWritable name) block.placed → HasLines name block
-has_lines name block is begun are = record {
+    → All (IsWritable isa name) block.placed → HasLines name block
+has_lines isa name block is begun are = record {
   some = grind (arith, nat_tests, some_cycles name block.cycles block.placed, begun);
   lines = grind (
     arith,
     nat_tests,
-    label_line,
+    label_line isa,
     is,
-    plain_lines (cycle_lines name 0 block.cycles block.placed) (cycles_plain name 0 block.cycles block.placed are),
+    plain_lines (cycle_lines name 0 block.cycles block.placed) (cycles_plain isa name 0 block.cycles block.placed are),
   );
 }
 
@@ -148,40 +157,43 @@ pub names_from : ℕ → List (Option Name) → List (Name × ℕ)
 names_from number [] = []
 names_from number (label ∷ labels) = named label number ++ names_from (number + 1) labels
 
-label_names : (number : ℕ) (label : Option Name) (more : List (List ℕ))
+label_names : InstructionSet → (number : ℕ) (label : Option Name) (more : List (List ℕ))
     → ((l : Name) → label ≡ Some l → is_label l ≡ true)
     → names_in number (label_lines label ++ more) ≡ named label number ++ names_in number more
-label_names number None more is = refl
-label_names number (Some label) more is = rw ((label_back label (is label refl)).1, filled_label label) refl
+label_names isa number None more is = refl
+label_names isa number (Some label) more is = rw ((label_back isa label (is label refl)).1, filled_label label) refl
 
-block_names : (name : ℕ → List ℕ) (number : ℕ) (block : Packed) (more : List (List ℕ)) → IsSmall name block
+block_names : (isa : InstructionSet) (name : ℕ → List ℕ) (number : ℕ) (block : Packed) (more : List (List ℕ))
+    → IsSmall isa name block
     → names_in number (block_lines name block ++ more) ≡ named block.label number ++ names_in number more
-block_names name number block more is =
+block_names isa name number block more is =
     let cycles : List (List ℕ) = cycle_lines name 0 block.cycles block.placed in
     rw (
       append_assoc (label_lines block.label) cycles more,
-      label_names number block.label (cycles ++ more) is.label,
-      plain_names number cycles more (cycles_plain name 0 block.cycles block.placed is.writable),
+      label_names isa number block.label (cycles ++ more) is.label,
+      plain_names number cycles more (cycles_plain isa name 0 block.cycles block.placed is.writable),
     ) refl
 
-parted_names : (name : ℕ → List ℕ) (number : ℕ) (blocks : List Packed) → AllByRecursion (IsSmall name) blocks
+parted_names : (isa : InstructionSet) (name : ℕ → List ℕ) (number : ℕ) (blocks : List Packed)
+    → AllByRecursion (IsSmall isa name) blocks
     → names_in number (parted_lines name blocks) ≡ names_from (number + 1) (packet_labels blocks)
 unfolding names_from
-parted_names name number [] are = refl
-parted_names name number (block ∷ blocks) are =
+parted_names isa name number [] are = refl
+parted_names isa name number (block ∷ blocks) are =
     rw (
       empty_field,
-      block_names name (number + 1) block (parted_lines name blocks) are.0,
-      parted_names name
+      block_names isa name (number + 1) block (parted_lines name blocks) are.0,
+      parted_names isa name
           (number + 1) blocks are.1,
     ) refl
 
-pub all_names : (name : ℕ → List ℕ) (packets : List Packed) → AllByRecursion (IsSmall name) packets
+pub all_names : (isa : InstructionSet) (name : ℕ → List ℕ) (packets : List Packed)
+    → AllByRecursion (IsSmall isa name) packets
     → names_in 0 (all_lines name packets) ≡ names_from 0 (packet_labels packets)
 unfolding names_from
-all_names name [] are = refl
-all_names name (block ∷ packets) are = rw
-    (block_names name 0 block (parted_lines name packets) are.0, parted_names name 0 packets are.1) refl
+all_names isa name [] are = refl
+all_names isa name (block ∷ packets) are = rw
+    (block_names isa name 0 block (parted_lines name packets) are.0, parted_names isa name 0 packets are.1) refl
 
 -- ---- the number of a label
 

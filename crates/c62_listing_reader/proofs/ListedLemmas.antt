@@ -20,6 +20,7 @@ use Rattle.c62_listing_reader.proofs.DraftLines.{idle_of, draft_lines, draft_all
 use Rattle.c62_listing_reader.proofs.DraftLines.{next_last, next_low}
 unfoldable use Rattle.c62_listing_reader.proofs.DraftLines.{head_lines, next_after, begun_lines}
 use Rattle.c62_listing_reader.proofs.AddedLines.{IsReady, GoesOn, nothing_idle, block_on}
+use Rattle.c62_op.specs.declared.set.InstructionSet.{InstructionSet}
 
 -- ---- what is known of the lines so far
 
@@ -69,10 +70,10 @@ empty_all name = refl
 some_empty : (bytes : List ℕ) → is_empty bytes ≡ true → bytes ≡ []
 some_empty bytes is = grind (arith, nat_tests)
 
-module _ (name : ℕ → List ℕ) (labels : List Name) (aim : Name → ℕ)
+module _ (isa : InstructionSet) (name : ℕ → List ℕ) (labels : List Name) (aim : Name → ℕ)
     (aims : (target : Name) → is_among target labels ≡ true → name (aim target) ≡ target) where
   line_on : (number : ℕ) (said : Said) (drafts : Drafts) (above : Above) (line : Line) (below : List Line)
-      → IsWritten drafts above (line ∷ below) → IsTold labels drafts above line below said
+      → IsWritten drafts above (line ∷ below) → IsTold isa labels drafts above line below said
       → IsGoing (with_said aim number said drafts) (above_next said.front said.says)
       → IsOn name drafts (content line) (with_said aim number said drafts) (above_next said.front said.says) below
   line_on number said drafts above line below is told going =
@@ -92,9 +93,11 @@ module _ (name : ℕ → List ℕ) (labels : List Name) (aim : Name → ℕ)
       next = with_line aim number said (opened drafts.current)
 
       on : is_gap said.front ≡ false → GoesOn name said.says (content line) (opened drafts.current) next
-      on gap = block_on name labels aim aims said.front number said.label said.says drafts.current above (content line)
+      on gap = block_on isa name labels aim aims said.front number said.label said.says drafts.current above
+          (content line)
           gap told.spelled
-          (is_short labels drafts above line below said told) (is_proper labels drafts above line below said told)
+          (is_short isa labels drafts above line below said told)
+          (is_proper isa labels drafts above line below said told)
           told.known
           told.pauses is.idle (is_ready said.front drafts above told.placed is.going) told.outside
 
@@ -124,15 +127,15 @@ module _ (name : ℕ → List ℕ) (labels : List Name) (aim : Name → ℕ)
 
   lists : (number : ℕ) (drafts : Drafts) (above : Above) (lines : List Line) (final : Drafts)
       → IsWritten drafts above lines
-      → read_lines labels aim number drafts above lines ≡ Ok final
+      → read_lines isa labels aim number drafts above lines ≡ Ok final
       → written name drafts ++ map content lines ≡ draft_all name (all_drafts final)
   lists number drafts above [] final is h =
       append-nil (written name drafts) ∙ ends_by drafts.done drafts.current above is
-      ∙ ap (λ (d : Drafts). draft_all name (all_drafts d)) (over labels aim number drafts above final h)
+      ∙ ap (λ (d : Drafts). draft_all name (all_drafts d)) (over isa labels aim number drafts above final h)
   lists number drafts above (line ∷ below) final is h =
-      let start = begun labels aim number drafts above line below final h in
+      let start = begun isa labels aim number drafts above line below final h in
       let said : Said = start.said in
-      let going = go labels aim number said drafts above line below is.going start.is in
+      let going = go isa labels aim number said drafts above line below is.going start.is in
       let on = line_on number said drafts above line below is start.is going in
       let rest = lists (number + 1) (with_said aim number said drafts) (above_next said.front said.says) below final
       on.is start.others in
@@ -157,21 +160,23 @@ text_back : (text : List ℕ) → list_all is_ended (lines_in text) ≡ true →
 text_back [] all = refl
 text_back (b ∷ rest) all = grind (arith, nat_tests, put_text b rest (lines_in rest), text_back rest)
 
-all_ended : (labels : List Name) (aim : Name
+all_ended : (isa : InstructionSet) (labels : List Name) (aim : Name
     → ℕ) (number : ℕ) (drafts : Drafts) (above : Above) (lines : List Line) (final : Drafts)
-    → read_lines labels aim number drafts above lines ≡ Ok final → list_all is_ended lines ≡ true
-all_ended labels aim number drafts above [] final h = refl
-all_ended labels aim number drafts above (line ∷ below) final h =
-    let start = begun labels aim number drafts above line below final h in
+    → read_lines isa labels aim number drafts above lines ≡ Ok final → list_all is_ended lines ≡ true
+all_ended isa labels aim number drafts above [] final h = refl
+all_ended isa labels aim number drafts above (line ∷ below) final h =
+    let start = begun isa labels aim number drafts above line below final h in
     let said : Said = start.said in
     and_from (is_ended line) (list_all is_ended below) start.is.ended
-    (all_ended labels aim (number + 1) (with_said aim number said drafts) (above_next said.front said.says) below final
+    (all_ended isa labels aim (number + 1) (with_said aim number said drafts)
+    (above_next said.front said.says) below final
     start.others)
 
 -- ---- what is read
 
-pub listed : (text : List ℕ) (packets : List Packed) → IsRead text packets → listing packets ≡ text
-listed text packets is =
+pub listed : (isa : InstructionSet) (text : List ℕ) (packets : List Packed) → IsRead isa text packets
+    → listing packets ≡ text
+listed isa text packets is =
     let final : Drafts = is.drafts in
     let lines : List Line = lines_in text in
     let entries : List (Name × ℕ) = names_in 0 (contents text) in
@@ -179,11 +184,11 @@ listed text packets is =
     let name : ℕ → List ℕ = name_in packets in
     let aims_by : (target : Name) → is_among target (labels_of entries) ≡ true → name (aim_by entries target) ≡ target =
     λ target known. ap (λ (labels : List (Option Name)). label_text (slice_get labels (aim_by entries target)))
-    (labels_same packets ∙ ap labels_in is.blocks) ∙ ap label_text (aims lines final read.1 target known) in
+    (labels_same packets ∙ ap labels_in is.blocks) ∙ ap label_text (aims isa lines final read.1 target known) in
     let start : IsWritten no_drafts Start lines = record
     { going = go-start; idle = λ e. nothing_idle None; filled = refl; last = λ e. inl refl } in
     let all : contents text ≡ draft_all name (all_drafts final) =
     ap (λ (lines : List (List ℕ)). lines ++ contents text) (sym (empty_all name))
-    ∙ lists name (labels_of entries) (aim_by entries) aims_by 1 no_drafts Start lines final start read.1 in
+    ∙ lists isa name (labels_of entries) (aim_by entries) aims_by 1 no_drafts Start lines final start read.1 in
     ap text_of (all_same name packets is.are_blocks ∙ ap (draft_all name) is.blocks ∙ sym all)
-    ∙ text_back text (all_ended (labels_of entries) (aim_by entries) 1 no_drafts Start lines final read.1)
+    ∙ text_back text (all_ended isa (labels_of entries) (aim_by entries) 1 no_drafts Start lines final read.1)

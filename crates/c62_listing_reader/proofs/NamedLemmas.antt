@@ -15,6 +15,7 @@ use Rattle.c62_listing_reader.proofs.FineBlocks.{IsGoing, go, go-start}
 use Rattle.c62_listing_reader.proofs.ToldLemmas.{begun, over}
 use Rattle.c62_listing_reader.proofs.ToldLines.{gap_front, has_name}
 use Rattle.c62_read.specs.declared.limits.TheConstants.{MOST_BLOCKS}
+use Rattle.c62_op.specs.declared.set.InstructionSet.{InstructionSet}
 
 -- ---- blocks with labels
 
@@ -139,15 +140,15 @@ record AreNamed (drafts : Drafts) (number : ℕ) (lines : List Line) (final : Dr
   pub keeps : Keeps drafts final
   pub names : AllNamed final (names_in number (map content lines))
 
-are_named : (labels : List Name) (aim : Name
+are_named : (isa : InstructionSet) (labels : List Name) (aim : Name
     → ℕ) (line number : ℕ) (drafts : Drafts) (above : Above) (lines : List Line) (final : Drafts)
     → IsCounted drafts above number
-    → read_lines labels aim line drafts above lines ≡ Ok final → AreNamed drafts number lines final
-are_named labels aim line number drafts above [] final counted h =
-    let same = over labels aim line drafts above final h in
+    → read_lines isa labels aim line drafts above lines ≡ Ok final → AreNamed drafts number lines final
+are_named isa labels aim line number drafts above [] final counted h =
+    let same = over isa labels aim line drafts above final h in
     record { keeps = subst (Keeps drafts) same (λ i name is. is); names = no_names final }
-are_named labels aim line number drafts above (first ∷ below) final counted h =
-    let start = begun labels aim line drafts above first below final h in
+are_named isa labels aim line number drafts above (first ∷ below) final counted h =
+    let start = begun isa labels aim line drafts above first below final h in
     let said : Said = start.said in
     let step = step_by aim line said drafts above below number counted start.is.between start.is.outside in
     let gap : is_gap said.front ≡ is_empty (content first) = ap is_gap start.is.front ∙ gap_front (content first) in
@@ -155,11 +156,12 @@ are_named labels aim line number drafts above (first ∷ below) final counted h 
     (number_after (content first) number) =
     subst (λ (b : Bool). IsCounted (with_said aim line said drafts) (above_next said.front said.says)
     (after_gap b number)) gap step.counted in
-    let rest = are_named labels aim (line + 1) (number_after (content first) number) (with_said aim line said drafts)
+    let rest = are_named isa labels aim (line + 1) (number_after (content first) number)
+    (with_said aim line said drafts)
     (above_next said.front said.says) below final counted_on start.others in
     let here : (name : Name) → label_field (content first) ≡ Some name → IsNamed (all_drafts final) number name =
     λ name field. (
-    let has = has_name labels drafts above first below said name start.is field in
+    let has = has_name isa labels drafts above first below said name start.is field in
     rest.keeps number name (step.names name has.0 has.1)
     ) in
     record {
@@ -170,16 +172,18 @@ are_named labels aim line number drafts above (first ∷ below) final counted h 
 
 -- ---- there are few blocks
 
-pub few_by : (labels : List Name) (aim : Name
+pub few_by : (isa : InstructionSet) (labels : List Name) (aim : Name
     → ℕ) (number : ℕ) (drafts : Drafts) (above : Above) (lines : List Line) (final : Drafts)
     → IsGoing drafts above
-    → read_lines labels aim number drafts above lines ≡ Ok final → length (all_drafts final) ≤ MOST_BLOCKS
-few_by labels aim number drafts above [] final going h = rw (← over labels aim number drafts above final h) going.few
-few_by labels aim number drafts above (line ∷ below) final going h =
-    let start = begun labels aim number drafts above line below final h in
+    → read_lines isa labels aim number drafts above lines ≡ Ok final → length (all_drafts final) ≤ MOST_BLOCKS
+few_by isa labels aim number drafts above [] final going h =
+    rw (← over isa labels aim number drafts above final h) going.few
+few_by isa labels aim number drafts above (line ∷ below) final going h =
+    let start = begun isa labels aim number drafts above line below final h in
     let said : Said = start.said in
-    let next = go labels aim number said drafts above line below going start.is in
-    few_by labels aim (number + 1) (with_said aim number said drafts) (above_next said.front said.says) below final next
+    let next = go isa labels aim number said drafts above line below going start.is in
+    few_by isa labels aim (number + 1) (with_said aim number said drafts)
+    (above_next said.front said.says) below final next
     start.others
 
 -- ---- the number of a target
@@ -205,14 +209,14 @@ aimed_at names final target few all known =
     subst (λ (n : ℕ). IsNamed (all_drafts final) n target) same found
 
 -- the number of a text's label is that of the block with this label
-pub aims : (lines : List Line) (final : Drafts)
-    → read_lines (labels_of (names_in 0 (map content lines))) (aim_by (names_in 0 (map content lines))) 1 no_drafts
+pub aims : (isa : InstructionSet) (lines : List Line) (final : Drafts)
+    → read_lines isa (labels_of (names_in 0 (map content lines))) (aim_by (names_in 0 (map content lines))) 1 no_drafts
     Start lines ≡ Ok final
     → (target : Name) → is_among target (labels_of (names_in 0 (map content lines))) ≡ true
     → IsNamed (all_drafts final) (aim_by (names_in 0 (map content lines)) target) target
-aims lines final h target known =
+aims isa lines final h target known =
     let names : List (Name × ℕ) = names_in 0 (map content lines) in
-    let few = few_by (labels_of names) (aim_by names) 1 no_drafts Start lines final go-start h in
-    let all = are_named (labels_of names) (aim_by names) 1 0 no_drafts Start lines final
+    let few = few_by isa (labels_of names) (aim_by names) 1 no_drafts Start lines final go-start h in
+    let all = are_named isa (labels_of names) (aim_by names) 1 0 no_drafts Start lines final
     (record { count = refl; filled = refl }) h in
     aimed_at names final target few all.names known

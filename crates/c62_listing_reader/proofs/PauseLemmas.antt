@@ -6,6 +6,7 @@ use Rattle.c62_token.specs.Kind.{Word}
 use Rattle.c62_line.specs.Line.{is_star, label_front, rest_says, without_colon}
 use Rattle.c62_line.proofs.PauseLemmas.{OkShort, nop_short}
 use Rattle.c62_token.proofs.SpelledTokens.{IsToken, tokens_behind, word_token}
+use Rattle.c62_op.specs.declared.set.InstructionSet.{InstructionSet}
 
 -- ---- the words of the line
 
@@ -30,12 +31,14 @@ line_words : (line : List ℕ) (words : List Word) → begins is_star line ≡ f
 line_words line words none h = plain_words (tokens line) words ((head_read line None words h).front none)
 
 -- what the line says is short
-pub short : (line word : List ℕ) (words : List Word) (says : Says) → line ≡ codes "   NOP " ++ word
+pub short : (isa : InstructionSet) (line word : List ℕ) (words : List Word) (says : Says)
+    → line ≡ codes "   NOP " ++ word
     → head_of line ≡ Ok (None, words)
-    → rest_says words ≡ Ok says → IsShort says
-short line word words says is head said =
+    → rest_says isa words ≡ Ok says → IsShort says
+short isa line word words says is head said =
     let head_is : head_of (codes "   NOP " ++ word) ≡ Ok (None, words) = sym (ap head_of is) ∙ head in
     let words_are : words ≡ codes "NOP" ∷ tokens word = sym (line_words (codes "   NOP " ++ word) words refl head_is)
     ∙ nop_words word in
-    let found : OkShort (Ok says) = subst OkShort (ap rest_says (sym words_are) ∙ said) (nop_short (tokens word)) in
+    let found : OkShort (Ok says) =
+    subst OkShort (ap (rest_says isa) (sym words_are) ∙ said) (nop_short isa (tokens word)) in
     found

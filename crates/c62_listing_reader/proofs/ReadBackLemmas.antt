@@ -17,7 +17,7 @@ use Rattle.c62_listing_reader.proofs.Common.{contents, drafts_in, IsRead, most_b
 use Rattle.std.proofs.lemmas.Bool.{not-false}
 use Rattle.c62_insn.specs.Fault.{no_unit}
 use Rattle.c62_insn.proofs.FaultLemmas.{faultless}
-use Rattle.c62_listing_reader.specs.Laws.{AreShown, IsReadBack}
+use Rattle.c62_listing_reader.specs.Laws.{AreShown, IsReadBack, is_within}
 use Rattle.c62_listing_reader.proofs.AlikeLemmas.{made}
 use Rattle.c62_listing_reader.proofs.BackLemmas.{AreBehind, IsSayable, IsWritable}
 use Rattle.c62_listing_reader.proofs.BlocksLemmas.{AllGood, HasLines, all_lead, IsSmall}
@@ -29,15 +29,21 @@ use Rattle.c62_listing_reader.proofs.ReadLemmas.{is_done}
 use Rattle.c62_listing_reader.proofs.TextLemmas.{fed}
 use Rattle.c62_listing_reader.proofs.UntoldLemmas.{contents_back, lines_back}
 use Rattle.std.proofs.lemmas.List.Elements.{All-weaker}
+use Rattle.std.proofs.lemmas.Bool.{and_from}
+use Rattle.c62_op.specs.Units.{is_taken_in}
+use Rattle.c62_op.proofs.CoreLemmas.{core_stays}
+use Rattle.c62_op.specs.declared.set.InstructionSet.TheVariants.{Full}
+use Rattle.c62_op.specs.declared.set.InstructionSet.{InstructionSet}
+use Rattle.c62_listing_reader.proofs.Common.{Bool, ◌&&◌}
 
 -- ---- the instructions of a block
 
 unit_taking : (p : Placed) → unit_of p.insn ≡ Some p.unit → takes (op_of p.insn) (operands_of p.insn) p.unit ≡ true
 unit_taking p written =
-    let none : no_unit (op_of p.insn) (operands_of p.insn) (unit_of p.insn) ≡ false =
-    (faultless p.insn.op p.insn.operands p.insn.cond p.insn.unit p.insn.well_formed).taken in
+    let none : no_unit Full (op_of p.insn) (operands_of p.insn) (unit_of p.insn) ≡ false =
+    (faultless Full p.insn.op p.insn.operands p.insn.cond p.insn.unit p.insn.well_formed).taken in
     not-false (takes (op_of p.insn) (operands_of p.insn) p.unit)
-    (ap (no_unit (op_of p.insn) (operands_of p.insn)) (sym written) ∙ none)
+    (ap (no_unit Full (op_of p.insn) (operands_of p.insn)) (sym written) ∙ none)
 
 -- a branch goes to a block with a label
 pub record HasTarget (labels : List (Option Name)) (number : ℕ) : Type 0 where
@@ -57,7 +63,7 @@ pub has_target : (labels : List (Option Name)) (operands : Operands) (number : �
 has_target labels operands number stands is = target_by labels number (slice_get labels number) refl
     (ap (target_stands labels) (sym is) ∙ stands)
 
-module _ (packets : List Packed) (shown : AreShown packets) where
+module _ (isa : InstructionSet) (packets : List Packed) (shown : AreShown isa packets) where
   abbrev labels : List (Option Name)
   labels = packet_labels packets
 
@@ -66,6 +72,34 @@ module _ (packets : List Packed) (shown : AreShown packets) where
 
   abbrev names : List (Name × ℕ)
   names = names_from 0 labels
+
+  -- a branch goes to a block with a label, and the instruction is one of the set
+  abbrev fits_in : Placed → Bool
+  fits_in p = target_stands labels (operands_of p.insn) && is_taken_in isa (op_of p.insn) (operands_of p.insn)
+
+  both_fit : (placed : List Placed) → list_all (λ p. target_stands labels (operands_of p.insn)) placed ≡ true
+      → list_all (λ p. is_taken_in isa (op_of p.insn) (operands_of p.insn)) placed ≡ true
+      → list_all fits_in placed ≡ true
+  both_fit [] stand within = refl
+  both_fit (p ∷ placed) stand within =
+      let here = and_parts (target_stands labels (operands_of p.insn)) _ stand in
+      let own = and_parts (is_taken_in isa (op_of p.insn) (operands_of p.insn)) _ within in
+      and_from (fits_in p) (list_all fits_in placed)
+      (and_from (target_stands labels (operands_of p.insn))
+      (is_taken_in isa (op_of p.insn) (operands_of p.insn)) here.0 own.0)
+      (both_fit placed here.1 own.1)
+
+  pub all_fit : (blocks : List Packed)
+      → list_all (λ block. list_all (λ p. target_stands labels (operands_of p.insn)) block.placed) blocks ≡ true
+      → list_all (λ block. is_within isa block) blocks ≡ true
+      → list_all (λ block. list_all fits_in block.placed) blocks ≡ true
+  all_fit [] stand within = refl
+  all_fit (block ∷ blocks) stand within =
+      let here = and_parts (list_all (λ (p : Placed). target_stands labels (operands_of p.insn)) block.placed) _ stand
+      in
+      let own = and_parts (is_within isa block) _ within in
+      and_from (list_all fits_in block.placed) (list_all (λ (b : Packed). list_all fits_in b.placed) blocks)
+      (both_fit block.placed here.0 own.0) (all_fit blocks here.1 own.1)
 
   named_so : (number : ℕ) (target : HasTarget labels number) → name number ≡ target.label
   named_so number target = ap label_text target.at
@@ -89,32 +123,38 @@ module _ (packets : List Packed) (shown : AreShown packets) where
       let few = shown.few in
       omega (arith, found, near, few, length-map packets (λ (block : Packed). block.label))
 
-  writable : (p : Placed) → unit_of p.insn ≡ Some p.unit → target_stands labels (operands_of p.insn) ≡ true
-      → IsWritable name p
-  writable p written stands = record {
-    taking = unit_taking p written;
-    names = λ number is. good_name number (has_target labels (operands_of p.insn) number stands is);
+  stands_of : (p : Placed) → fits_in p ≡ true → target_stands labels (operands_of p.insn) ≡ true
+  stands_of p fit = (and_parts (target_stands labels (operands_of p.insn))
+      (is_taken_in isa (op_of p.insn) (operands_of p.insn)) fit).0
+
+  writable : (p : Placed) → unit_of p.insn ≡ Some p.unit → fits_in p ≡ true → IsWritable isa name p
+  writable p written fit = record {
+    taking =
+        core_stays isa (op_of p.insn) (operands_of p.insn) p.unit
+        (and_parts (target_stands labels (operands_of p.insn))
+        (is_taken_in isa (op_of p.insn) (operands_of p.insn)) fit).1
+        (unit_taking p written);
+    names = λ number is. good_name number (has_target labels (operands_of p.insn) number (stands_of p fit) is);
   }
 
-  sayable : (p : Placed) → unit_of p.insn ≡ Some p.unit → target_stands labels (operands_of p.insn) ≡ true
-      → IsSayable name (labels_of names) (aim_by names) p
-  sayable p written stands = record {
+  sayable : (p : Placed) → unit_of p.insn ≡ Some p.unit → fits_in p ≡ true
+      → IsSayable isa name (labels_of names) (aim_by names) p
+  sayable p written fit = record {
     written = written;
-    writable = writable p written stands;
-    known = λ number is. known_so number (has_target labels (operands_of p.insn) number stands is);
-    aimed = λ number is. aimed_so number (has_target labels (operands_of p.insn) number stands is);
+    writable = writable p written fit;
+    known = λ number is. known_so number (has_target labels (operands_of p.insn) number (stands_of p fit) is);
+    aimed = λ number is. aimed_so number (has_target labels (operands_of p.insn) number (stands_of p fit) is);
   }
 
   pub all_placed : (P : Placed → Type 0)
-      → ((p : Placed) → unit_of p.insn ≡ Some p.unit → target_stands labels (operands_of p.insn) ≡ true → P p)
+      → ((p : Placed) → unit_of p.insn ≡ Some p.unit → fits_in p ≡ true → P p)
       → (placed : List Placed)
       → All (λ p. unit_of p.insn ≡ Some p.unit) placed
-      → list_all (λ p. target_stands labels (operands_of p.insn)) placed ≡ true → All P placed
+      → list_all fits_in placed ≡ true → All P placed
   all_placed P each [] written stand = All-nil P
   all_placed P each (p ∷ placed) written stand =
       let parts =
-      and_parts (target_stands labels (operands_of p.insn))
-      (list_all (λ (q : Placed). target_stands labels (operands_of q.insn)) placed) stand in
+      and_parts (fits_in p) (list_all fits_in placed) stand in
       let here : unit_of p.insn ≡ Some p.unit = written 0 p (omega arith) in
       All-cons P p placed (each p here parts.0)
       (all_placed P each placed (All-tail (λ (q : Placed). unit_of q.insn ≡ Some q.unit) p placed written) parts.1)
@@ -122,7 +162,7 @@ module _ (packets : List Packed) (shown : AreShown packets) where
   -- what is asked of one block
   pub record IsFit (block : Packed) : Type 0 where
     pub is : IsPacketBlock block
-    pub stand : list_all (λ p. target_stands labels (operands_of p.insn)) block.placed ≡ true
+    pub stand : list_all fits_in block.placed ≡ true
     pub label : (l : Name) → block.label ≡ Some l → is_label l ≡ true
     pub begun : block.label ≡ None → 0 < length block.placed
 
@@ -133,14 +173,13 @@ module _ (packets : List Packed) (shown : AreShown packets) where
   label_by (Some label) more all = (λ l is. grind (arith, all.0), all.1)
 
   pub fit : (blocks : List Packed) → All IsPacketBlock blocks
-      → list_all (λ block. list_all (λ p. target_stands labels (operands_of p.insn)) block.placed) blocks ≡ true
+      → list_all (λ block. list_all fits_in block.placed) blocks ≡ true
       → AllByRecursion (λ l. IsTrue (is_label l)) (given (packet_labels blocks))
       → AllByRecursion (λ block. block.label ≡ None → 0 < length block.placed) blocks
       → AllByRecursion IsFit blocks
   fit [] are stand good begun = tt
   fit (block ∷ blocks) are stand good begun =
-      let parts = and_parts (list_all (λ (p : Placed). target_stands labels (operands_of p.insn)) block.placed) _ stand
-      in
+      let parts = and_parts (list_all fits_in block.placed) _ stand in
       let both = label_by block.label (packet_labels blocks) good in (
         record { is = are 0 block (omega arith); stand = parts.0; label = both.0; begun = begun.0 },
         fit blocks (All-tail IsPacketBlock block blocks are) parts.1 both.1 begun.1,
@@ -169,13 +208,13 @@ module _ (packets : List Packed) (shown : AreShown packets) where
       All-weaker (λ (p : Placed). landing_end (issue_of p) ≤ cycles) (λ (p : Placed). p.cycle + 1 ≤ cycles)
       (λ p le. omega (arith, le)) placed all
 
-  pub all_writable : (block : Packed) → IsFit block → All (IsWritable name) block.placed
-  all_writable block is = all_placed (IsWritable name) writable block.placed is.is.as_written is.stand
+  pub all_writable : (block : Packed) → IsFit block → All (IsWritable isa name) block.placed
+  all_writable block is = all_placed (IsWritable isa name) writable block.placed is.is.as_written is.stand
 
   pub lines_of : (block : Packed) → IsFit block → HasLines name block
-  lines_of block is = has_lines name block is.label is.begun (all_writable block is)
+  lines_of block is = has_lines isa name block is.label is.begun (all_writable block is)
 
-  pub small : (block : Packed) → IsFit block → IsSmall name block
+  pub small : (block : Packed) → IsFit block → IsSmall isa name block
   small block is = record {
     label = is.label;
     writable = all_writable block is;
@@ -204,7 +243,7 @@ module _ (packets : List Packed) (shown : AreShown packets) where
 
   good : (passed blocks : List Packed) → IsDistinct bytes_eq (given (packet_labels (passed ++ blocks)))
       → AllByRecursion IsFit blocks
-      → AllGood name (labels_of names) (aim_by names) passed blocks
+      → AllGood isa name (labels_of names) (aim_by names) passed blocks
   unfolding AllGood
   good passed [] distinct are = tt
   good passed (block ∷ blocks) distinct are = (
@@ -212,7 +251,8 @@ module _ (packets : List Packed) (shown : AreShown packets) where
       small = small block are.0;
       free = λ label is. free_by passed blocks block label distinct is;
       begun = are.0.begun;
-      sayable = all_placed (IsSayable name (labels_of names) (aim_by names)) sayable block.placed are.0.is.as_written
+      sayable = all_placed
+          (IsSayable isa name (labels_of names) (aim_by names)) sayable block.placed are.0.is.as_written
           are.0.stand;
     },
     good (passed ++ block ∷ []) blocks
@@ -220,9 +260,10 @@ module _ (packets : List Packed) (shown : AreShown packets) where
         (sym (append_assoc passed (block ∷ []) blocks)) distinct) are.1,
   )
 
-  back : (others : List Packed) × IsRead (listing packets) others × AreAlike packets others
+  back : (others : List Packed) × IsRead isa (listing packets) others × AreAlike packets others
   back =
-      let fits : AllByRecursion IsFit packets = fit packets shown.are_blocks shown.closed shown.labels shown.begun in
+      let fits : AllByRecursion IsFit packets =
+      fit packets shown.are_blocks (all_fit packets shown.closed shown.within) shown.labels shown.begun in
       let lines : List (List ℕ) = all_lines name packets in
       let text : List ℕ = listing packets in
       let has : AllByRecursion (HasLines name) packets = each (HasLines name) lines_of packets fits in
@@ -230,18 +271,21 @@ module _ (packets : List Packed) (shown : AreShown packets) where
       let cut : lines_in text ≡ map fed lines = lines_back lines allowed in
       let same : contents text ≡ lines = ap (map content) cut ∙ contents_back lines allowed in
       let told : names_in 0 (contents text) ≡ names = ap (names_in 0) same
-      ∙ all_names name packets (each (IsSmall name) small packets fits) in
+      ∙ all_names isa name packets (each (IsSmall isa name) small packets fits) in
       let short : nat_lt most_bytes (length text) ≡ false =
-      le-ltb most_bytes (length text) (all_length name packets shown.few (each (IsSmall name) small packets fits)) in
-      let lead = all_lead name (labels_of names) (aim_by names) packets 1 [] shown.few
+      le-ltb most_bytes (length text)
+      (all_length isa name packets shown.few (each (IsSmall isa name) small packets fits)) in
+      let lead = all_lead isa name (labels_of names) (aim_by names) packets 1 [] shown.few
       (good [] packets shown.distinct fits) has in
-      let read : read_lines (labels_of names) (aim_by names) 1 no_drafts Start (map fed lines) ≡ Ok lead.final =
-      ap (read_lines (labels_of names) (aim_by names) 1 no_drafts Start) (sym (append-nil (map fed lines))) ∙ lead.reads
-      ∙ is_done (labels_of names) (aim_by names) lead.end [] lead.final lead.last refl in
-      let said : drafts_in text ≡ Ok lead.final =
-      rw short (subst (λ (ns : List (Name × ℕ)). read_lines (labels_of ns) (aim_by ns) 1 no_drafts Start (lines_in text)
+      let read : read_lines isa (labels_of names) (aim_by names) 1 no_drafts Start (map fed lines) ≡ Ok lead.final =
+      ap (read_lines isa (labels_of names) (aim_by names) 1 no_drafts Start) (sym (append-nil (map fed lines)))
+      ∙ lead.reads
+      ∙ is_done isa (labels_of names) (aim_by names) lead.end [] lead.final lead.last refl in
+      let said : drafts_in isa text ≡ Ok lead.final =
+      rw short (subst (λ (ns : List (Name × ℕ)). read_lines isa (labels_of ns) (aim_by ns) 1 no_drafts Start
+      (lines_in text)
       ≡ Ok lead.final) (sym told)
-      (subst (λ (ls : List Line). read_lines (labels_of names) (aim_by names) 1 no_drafts Start ls ≡ Ok lead.final)
+      (subst (λ (ls : List Line). read_lines isa (labels_of names) (aim_by names) 1 no_drafts Start ls ≡ Ok lead.final)
       (sym cut) read)) in
       let made_of = made (all_drafts lead.final) packets lead.is shown.are_blocks in (
         made_of.others,
@@ -250,5 +294,5 @@ module _ (packets : List Packed) (shown : AreShown packets) where
         made_of.alike,
       )
 
-pub read_back : (packets : List Packed) → IsReadBack packets
-read_back packets shown = back packets shown
+pub read_back : (isa : InstructionSet) (packets : List Packed) → IsReadBack isa packets
+read_back isa packets shown = back isa packets shown

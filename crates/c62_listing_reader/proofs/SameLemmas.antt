@@ -5,6 +5,7 @@ use Rattle.c62_listing_reader.proofs.Common.{parts_of, Placed, Packed, StandAsWr
 use Rattle.c62_listing_reader.proofs.Common.{all_drafts, Refusal, draft_of}
 use Rattle.c62_listing_reader.proofs.Common.{IsRead}
 use Rattle.c62_insn.proofs.SameLemmas.{same_parts}
+use Rattle.c62_op.specs.declared.set.InstructionSet.{InstructionSet}
 
 pub same_insn : (a b : Insn) → parts_of a ≡ parts_of b → a ≡ b
 same_insn a b e = grind (arith, same_parts a b)
@@ -39,9 +40,10 @@ same_blocks (block ∷ packets) (other ∷ others) first last e =
     (All-tail IsPacketBlock other others last) in
     grind (arith, same_block block other (first 0 block (omega arith)) (last 0 other (omega arith)), rest)
 
-pub one_reading : (text : List ℕ) (packets others : List Packed) → IsRead text packets → IsRead text others
+pub one_reading : (isa : InstructionSet) (text : List ℕ) (packets others : List Packed) → IsRead isa text packets
+    → IsRead isa text others
     → packets ≡ others
-one_reading text packets others first last =
+one_reading isa text packets others first last =
     let both : ◌≡◌ {A = Result Drafts Refusal} (Ok first.drafts) (Ok last.drafts) = sym first.said ∙ last.said in
     let same : first.drafts ≡ last.drafts = cc in
     same_blocks packets others first.are_blocks last.are_blocks (first.blocks ∙ ap all_drafts same ∙ sym last.blocks)

@@ -24,6 +24,7 @@ use Rattle.c62_token.specs.Kind.{Word}
 use Rattle.c62_packet.specs.Alike.{AreAlike}
 use Rattle.c62_listing_reader.specs.Laws.{labels_given, AreShown, IsReadExactly}
 use Rattle.c62_listing_reader.proofs.ClosedLemmas.{labels_same, read_closed}
+use Rattle.c62_listing_reader.proofs.WithinLemmas.{read_within}
 use Rattle.c62_listing_reader.proofs.FineBlocks.{go-start}
 use Rattle.c62_listing_reader.proofs.ListedLemmas.{listed}
 use Rattle.c62_listing_reader.proofs.NamedLemmas.{labels_in, says_label, few_by}
@@ -31,6 +32,7 @@ use Rattle.c62_listing_reader.proofs.ReadBackLemmas.{read_back}
 use Rattle.c62_listing_reader.proofs.ToldLemmas.{IsTold, begun, over, if_err}
 use Rattle.c62_listing_reader.proofs.ToldLines.{is_short, line_parts, read_line, rest_read}
 use Rattle.c62_read.specs.declared.limits.TheConstants.{MOST_BLOCKS}
+use Rattle.c62_op.specs.declared.set.InstructionSet.{InstructionSet}
 
 -- ---- the label of a line
 
@@ -49,13 +51,14 @@ record IsFresh (drafts : Drafts) (label : Option Name) : Type 0 where
   pub good : (name : Name) → label ≡ Some name → is_label name ≡ true
   pub free : is_taken label drafts ≡ false
 
-fresh : (labels : List Name) (drafts : Drafts) (above : Above) (line : Line) (below : List Line) (said : Said)
-    → IsTold labels drafts above line below said
+fresh : (isa : InstructionSet) (labels : List Name) (drafts : Drafts) (above : Above) (line : Line) (below : List Line)
+    (said : Said)
+    → IsTold isa labels drafts above line below said
     → IsFresh drafts said.label
-fresh labels drafts above line below said is =
+fresh isa labels drafts above line below said is =
     let rest : List ℕ = rest_of said.front (content line) in
-    let read : line_of rest ≡ Ok (said.label, said.says) = read_line labels drafts above line below said is in
-    let parts = line_parts rest said.label said.says read in
+    let read : line_of isa rest ≡ Ok (said.label, said.says) = read_line isa labels drafts above line below said is in
+    let parts = line_parts isa rest said.label said.says read in
     record {
       good = λ name e. field_good rest name (field_is rest said.label parts.words parts.head ∙ e);
       free = by_test (is_taken said.label drafts) refl;
@@ -64,8 +67,8 @@ fresh labels drafts above line below said is =
     by_test : (taken : Bool) → is_taken said.label drafts ≡ taken → taken ≡ false
     by_test false e = refl
     by_test true e =
-        let refused = rest_read drafts (rest_of said.front (content line)) said.label said.says true
-        (read_line labels drafts above line below said is) e in
+        let refused = rest_read isa drafts (rest_of said.front (content line)) said.label said.says true
+        (read_line isa labels drafts above line below said is) e in
         let told = is.read in
         absurd cc
 
@@ -188,10 +191,10 @@ record IsShowing (drafts : Drafts) : Type 0 where
   pub given : AreGiven (given_in (all_drafts drafts))
   pub opened : AllByRecursion IsOpenedBy (all_drafts drafts)
 
-showing_on : (labels : List Name) (aim : Name
+showing_on : (isa : InstructionSet) (labels : List Name) (aim : Name
     → ℕ) (number : ℕ) (drafts : Drafts) (above : Above) (line : Line) (below : List Line) (said : Said)
-    → IsTold labels drafts above line below said → IsShowing drafts → IsShowing (with_said aim number said drafts)
-showing_on labels aim number drafts above line below said is showing = by_gap (is_gap said.front) refl
+    → IsTold isa labels drafts above line below said → IsShowing drafts → IsShowing (with_said aim number said drafts)
+showing_on isa labels aim number drafts above line below said is showing = by_gap (is_gap said.front) refl
   where
     next : Draft
     next = with_says aim (is_beside said.front) number said.says (with_label said.label (opened drafts.current))
@@ -208,22 +211,23 @@ showing_on labels aim number drafts above line below said is showing = by_gap (i
         in
         record {
           given = next_given drafts.done drafts.current said.label next showing.given
-              (fresh labels drafts above line below said is) is.outside own;
+              (fresh isa labels drafts above line below said is) is.outside own;
           opened = opened_more drafts.done next (opened_done drafts.done drafts.current showing.opened)
               (opened_by aim number (content line) said drafts.current gap is.spelled
-              (is_short labels drafts above line below said is));
+              (is_short isa labels drafts above line below said is));
         }
 
-all_showing : (labels : List Name) (aim : Name
+all_showing : (isa : InstructionSet) (labels : List Name) (aim : Name
     → ℕ) (number : ℕ) (drafts : Drafts) (above : Above) (lines : List Line) (final : Drafts)
-    → IsShowing drafts → read_lines labels aim number drafts above lines ≡ Ok final → IsShowing final
-all_showing labels aim number drafts above [] final showing h = subst IsShowing
-    (over labels aim number drafts above final h) showing
-all_showing labels aim number drafts above (line ∷ below) final showing h =
-    let start = begun labels aim number drafts above line below final h in
+    → IsShowing drafts → read_lines isa labels aim number drafts above lines ≡ Ok final → IsShowing final
+all_showing isa labels aim number drafts above [] final showing h = subst IsShowing
+    (over isa labels aim number drafts above final h) showing
+all_showing isa labels aim number drafts above (line ∷ below) final showing h =
+    let start = begun isa labels aim number drafts above line below final h in
     let said : Said = start.said in
-    all_showing labels aim (number + 1) (with_said aim number said drafts) (above_next said.front said.says) below final
-    (showing_on labels aim number drafts above line below said start.is showing) start.others
+    all_showing isa labels aim (number + 1) (with_said aim number said drafts)
+    (above_next said.front said.says) below final
+    (showing_on isa labels aim number drafts above line below said start.is showing) start.others
 
 none_given : AreGiven []
 unfolding IsDistinct
@@ -259,15 +263,17 @@ all_begun (block ∷ blocks) are opened = (
 )
 
 -- packets that are read of a text are shown whole
-pub read_shown : (text : List ℕ) (packets : List Packed) → IsRead text packets → AreShown packets
-read_shown text packets is =
+pub read_shown : (isa : InstructionSet) (text : List ℕ) (packets : List Packed) → IsRead isa text packets
+    → AreShown isa packets
+read_shown isa text packets is =
     let final : Drafts = is.drafts in
     let lines : List Line = lines_in text in
     let entries : List (Name × ℕ) = names_in 0 (contents text) in
     let read = (if_err (nat_lt most_bytes (length text)) _ _ final is.said).1 in
-    let showing : IsShowing final = all_showing (labels_of entries) (aim_by entries) 1 no_drafts Start lines final
+    let showing : IsShowing final = all_showing isa (labels_of entries) (aim_by entries) 1 no_drafts Start lines final
     (record { given = none_given; opened = tt }) read in
-    let few : length (all_drafts final) ≤ MOST_BLOCKS = few_by (labels_of entries) (aim_by entries) 1 no_drafts Start
+    let few : length (all_drafts final) ≤ MOST_BLOCKS =
+    few_by isa (labels_of entries) (aim_by entries) 1 no_drafts Start
     lines final go-start read in
     let count : length packets ≡ length (all_drafts final) = sym (length-map packets draft_of)
     ∙ ap (λ (drafts : List Draft). length drafts) is.blocks in
@@ -276,18 +282,19 @@ read_shown text packets is =
     record {
       few = omega arith;
       are_blocks = is.are_blocks;
-      closed = read_closed text packets is;
+      closed = read_closed isa text packets is;
+      within = read_within isa text packets is;
       labels = subst (AllByRecursion (λ name. IsTrue (is_label name))) (sym same) showing.given.labels;
       distinct = subst (IsDistinct bytes_eq) (sym same) showing.given.distinct;
       begun = all_begun packets is.are_blocks (subst (AllByRecursion IsOpenedBy) (sym is.blocks) showing.opened);
     }
 
-abbrev IsReadFrom : List ℕ → List Packed → Type 0
-IsReadFrom text packets = (others : List Packed) × IsRead text others × AreAlike packets others
+abbrev IsReadFrom : InstructionSet → List ℕ → List Packed → Type 0
+IsReadFrom isa text packets = (others : List Packed) × IsRead isa text others × AreAlike packets others
 
-pub read_exactly : (text : List ℕ) → IsReadExactly text
-read_exactly text = record {
-  reads_listings = λ packets is. (read_shown text packets is, listed text packets is);
-  listings_are_read = λ packets shown same. subst (λ (bytes : List ℕ). IsReadFrom bytes packets) same
-      (read_back packets shown);
+pub read_exactly : (isa : InstructionSet) (text : List ℕ) → IsReadExactly isa text
+read_exactly isa text = record {
+  reads_listings = λ packets is. (read_shown isa text packets is, listed isa text packets is);
+  listings_are_read = λ packets shown same. subst (λ (bytes : List ℕ). IsReadFrom isa bytes packets) same
+      (read_back isa packets shown);
 }

@@ -15,6 +15,7 @@ use Rattle.c62_listing_reader.proofs.BackLemmas.{AreBehind, IsWritable}
 use Rattle.c62_listing_reader.proofs.BlocksLemmas.{IsSmall}
 use Rattle.c62_read.specs.declared.limits.TheConstants.{MOST_BLOCKS}
 use Rattle.c62_listing_reader.specs.declared.reader.TheConstants.{MOST_BYTES}
+use Rattle.c62_op.specs.declared.set.InstructionSet.{InstructionSet}
 
 -- ---- their bytes
 
@@ -59,16 +60,18 @@ idle_length idle =
       rest_length (idle % 9) (omega arith),
     )
 
-insn_length : (name : ℕ → List ℕ) (p : Placed) → IsWritable name p → length (spelling name p.insn p.unit) ≤ 252
-insn_length name p is =
-    let first = first_plain name p.insn p.unit is.taking is.names in
+insn_length : (isa : InstructionSet) (name : ℕ → List ℕ) (p : Placed) → IsWritable isa name p
+    → length (spelling name p.insn p.unit) ≤ 252
+insn_length isa name p is =
+    let first = first_plain isa name p.insn p.unit is.taking is.names in
     omega (arith, first.fits, length-append (codes "   ") (spelling name p.insn p.unit))
 
-placed_length : (name : ℕ → List ℕ) (b : Bool) (idle : ℕ) (p : Placed) → IsWritable name p → text_length
+placed_length : (isa : InstructionSet) (name : ℕ → List ℕ) (b : Bool) (idle : ℕ) (p : Placed) → IsWritable isa name p
+    → text_length
     (if b then (codes "|| " ++ spelling name p.insn p.unit) ∷ [] else idle_lines idle ++
     (codes "   " ++ spelling name p.insn p.unit) ∷ []) ≤ 256 +
     (if b then 0 else 9 * idle)
-placed_length name b idle p is =
+placed_length isa name b idle p is =
     let line : List ℕ → List ℕ = λ start. start ++ spelling name p.insn p.unit in
     grind (
       arith,
@@ -78,39 +81,43 @@ placed_length name b idle p is =
       text_one,
       length-append (codes "|| "),
       length-append (codes "   "),
-      insn_length name p is,
+      insn_length isa name p is,
     )
 
-cycles_length : (name : ℕ → List ℕ) (q : Placed) (cycles : ℕ) (placed : List Placed) → All (IsWritable name) placed
+cycles_length : (isa : InstructionSet) (name : ℕ → List ℕ) (q : Placed) (cycles : ℕ) (placed : List Placed)
+    → All (IsWritable isa name) placed
     → AreBehind q placed
     → All (λ p. p.cycle + 1 ≤ cycles) placed
     → q.cycle + 1 ≤ cycles
     → text_length (cycle_lines name (q.cycle + 1) cycles placed) ≤ 256 * length placed + 9 *
     (cycles - (q.cycle + 1))
 unfolding AreBehind
-cycles_length name q cycles [] are order within low = omega (arith, idle_length (cycles - (q.cycle + 1)))
-cycles_length name q cycles (p ∷ placed) are order within low =
+cycles_length isa name q cycles [] are order within low = omega (arith, idle_length (cycles - (q.cycle + 1)))
+cycles_length isa name q cycles (p ∷ placed) are order within low =
     let here : p.cycle + 1 ≤ cycles = within 0 p (omega arith) in
-    let rest = cycles_length name p cycles placed (All-tail (IsWritable name) p placed are) order.1
+    let rest = cycles_length isa name p cycles placed (All-tail (IsWritable isa name) p placed are) order.1
     (All-tail (λ (r : Placed). r.cycle + 1 ≤ cycles) p placed within) here in
     let both = text_both (placed_lines name (q.cycle + 1) p) (cycle_lines name (p.cycle + 1) cycles placed) in
     let rises : q.cycle ≤ p.cycle = omega (arith, order.0, index_of-below q.unit, index_of-below p.unit) in
-    let first = placed_length name (nat_lt p.cycle (q.cycle + 1)) (p.cycle - (q.cycle + 1)) p (are 0 p (omega arith)) in
+    let first = placed_length isa name (nat_lt p.cycle (q.cycle + 1)) (p.cycle - (q.cycle + 1)) p
+    (are 0 p (omega arith)) in
     grind (arith, nat_tests, first, rest, both)
 
-start_length : (name : ℕ → List ℕ) (cycles : ℕ) (placed : List Placed) → All (IsWritable name) placed
+start_length : (isa : InstructionSet) (name : ℕ → List ℕ) (cycles : ℕ) (placed : List Placed)
+    → All (IsWritable isa name) placed
     → ((p : Placed) (rest : List Placed) → placed ≡ p ∷ rest → AreBehind p rest)
     → All (λ p. p.cycle + 1 ≤ cycles) placed
     → text_length (cycle_lines name 0 cycles placed) ≤ 256 * length placed + 9 * cycles
-start_length name cycles [] are order within = omega (arith, idle_length (cycles - 0))
-start_length name cycles (p ∷ placed) are order within =
+start_length isa name cycles [] are order within = omega (arith, idle_length (cycles - 0))
+start_length isa name cycles (p ∷ placed) are order within =
     let here : p.cycle + 1 ≤ cycles = within 0 p (omega arith) in
-    let rest = cycles_length name p cycles placed (All-tail (IsWritable name) p placed are) (order p placed refl)
+    let rest = cycles_length isa name p cycles placed (All-tail (IsWritable isa name) p placed are)
+    (order p placed refl)
     (All-tail (λ (r : Placed). r.cycle + 1 ≤ cycles) p placed within) here in
     grind (
       arith,
       nat_tests,
-      placed_length name (nat_lt p.cycle 0) (p.cycle - 0) p (are 0 p (omega arith)),
+      placed_length isa name (nat_lt p.cycle 0) (p.cycle - 0) p (are 0 p (omega arith)),
       rest,
       text_both (placed_lines name 0 p) (cycle_lines name (p.cycle + 1) cycles placed),
     )
@@ -127,10 +134,11 @@ label_length (Some label) is =
           (label_parts label (is label refl)).2,
     )
 
-block_length : (name : ℕ → List ℕ) (block : Packed) → IsSmall name block → text_length (block_lines name block) ≤ 84002
-block_length name block is =
+block_length : (isa : InstructionSet) (name : ℕ → List ℕ) (block : Packed) → IsSmall isa name block
+    → text_length (block_lines name block) ≤ 84002
+block_length isa name block is =
     let label = label_length block.label is.label in
-    let start = start_length name block.cycles block.placed is.writable is.order is.within in
+    let start = start_length isa name block.cycles block.placed is.writable is.order is.within in
     omega (
       arith,
       text_both (label_lines block.label) (cycle_lines name 0 block.cycles block.placed),
@@ -140,27 +148,28 @@ block_length name block is =
       is.short,
     )
 
-parted_length : (name : ℕ → List ℕ) (blocks : List Packed) → AllByRecursion (IsSmall name) blocks
+parted_length : (isa : InstructionSet) (name : ℕ → List ℕ) (blocks : List Packed)
+    → AllByRecursion (IsSmall isa name) blocks
     → text_length (parted_lines name blocks) ≤ 84003 * length blocks
-parted_length name [] are = omega arith
-parted_length name (block ∷ blocks) are =
+parted_length isa name [] are = omega arith
+parted_length isa name (block ∷ blocks) are =
     omega (
       arith,
       text_first [] (block_lines name block ++ parted_lines name blocks),
       text_both (block_lines name block) (parted_lines name blocks),
-      block_length name block are.0,
-      parted_length name blocks are.1,
+      block_length isa name block are.0,
+      parted_length isa name blocks are.1,
     )
 
-pub all_length : (name : ℕ → List ℕ) (packets : List Packed) → length packets ≤ MOST_BLOCKS
-    → AllByRecursion (IsSmall name) packets
+pub all_length : (isa : InstructionSet) (name : ℕ → List ℕ) (packets : List Packed) → length packets ≤ MOST_BLOCKS
+    → AllByRecursion (IsSmall isa name) packets
     → length (text_of (all_lines name packets)) ≤ MOST_BYTES
-all_length name [] few are = omega arith
-all_length name (block ∷ packets) few are =
+all_length isa name [] few are = omega arith
+all_length isa name (block ∷ packets) few are =
     omega (
       arith,
       text_both (block_lines name block) (parted_lines name packets),
-      block_length name block are.0,
-      parted_length name packets are.1,
+      block_length isa name block are.0,
+      parted_length isa name packets are.1,
       few,
     )

@@ -13,15 +13,17 @@ use Rattle.c62_listing_reader.proofs.PauseLemmas.{short}
 use Rattle.c62_line.specs.declared.limits.TheConstants.{MOST_LINE}
 use Rattle.c62_read.specs.declared.limits.TheConstants.{MOST_BLOCKS, MOST_INSTRUCTIONS}
 use Rattle.c62_packet.specs.declared.limits.TheConstants.{MOST_CYCLES}
+use Rattle.c62_op.specs.declared.set.InstructionSet.{InstructionSet}
 
 -- all that is asked of a line
-pub record IsTold (labels : List Name) (drafts : Drafts) (above : Above) (line : Line) (below : List Line)
+pub record IsTold (isa : InstructionSet) (labels : List Name) (drafts : Drafts) (above : Above) (line : Line)
+    (below : List Line)
     (said : Said) : Type 0 where
   pub front : said.front ≡ front_of (content line)
   pub allowed : list_all is_allowed (content line) ≡ true
   pub fits : length (content line) ≤ MOST_LINE
   pub placed : is_misplaced said.front above ≡ false
-  pub read : rest_says drafts (rest_of said.front (content line)) ≡ Ok (said.label, said.says)
+  pub read : rest_says isa drafts (rest_of said.front (content line)) ≡ Ok (said.label, said.says)
   pub known : is_unknown labels said.says ≡ false
   pub few : (is_instruction said.says && nat_le MOST_INSTRUCTIONS (length (opened drafts.current).placed)) ≡ false
   pub begins : (not (is_gap said.front) && is_none drafts.current && nat_le MOST_BLOCKS (length drafts.done)) ≡ false
@@ -53,16 +55,17 @@ unodd b x s h = grind arith
 pub not_false : (b : Bool) → not b ≡ false → b ≡ true
 not_false b h = grind arith
 
-rest_told : (labels : List Name) (drafts : Drafts) (above : Above) (line : Line) (below : List Line) (front : Front)
+rest_told : (isa : InstructionSet) (labels : List Name) (drafts : Drafts) (above : Above) (line : Line)
+    (below : List Line) (front : Front)
     (read : Result (Option Name × Says) Cause) (said : Said)
     → front ≡ front_of (content line) → list_all is_allowed (content line) ≡ true
     → nat_lt MOST_LINE (length (content line)) ≡ false
     → is_misplaced front above ≡ false
-    → rest_says drafts (rest_of front (content line)) ≡ read
+    → rest_says isa drafts (rest_of front (content line)) ≡ read
     → with_rest labels drafts above line below front read ≡ Ok said
-    → IsTold labels drafts above line below said
-rest_told labels drafts above line below front (Err cause) said is allowed fits placed from h = absurd cc
-rest_told labels drafts above line below front (Ok (label, says)) said is allowed fits placed from h =
+    → IsTold isa labels drafts above line below said
+rest_told isa labels drafts above line below front (Err cause) said is allowed fits placed from h = absurd cc
+rest_told isa labels drafts above line below front (Ok (label, says)) said is allowed fits placed from h =
     let one = hindered (hindrance labels drafts front says)
     (unless_odd (is_odd drafts above line below front label says)
     (record { front = front; label = label; says = says })) said h in
@@ -82,7 +85,7 @@ rest_told labels drafts above line below front (Ok (label, says)) said is allowe
     let inside = if_true (is_some label && is_some drafts.current) _ alone.1 in
     let long : nat_lt MOST_CYCLES ((opened drafts.current).cycles + cycles_added (is_beside front) says) ≡ false =
     inside.1 in
-    subst (IsTold labels drafts above line below) two.1 (record {
+    subst (IsTold isa labels drafts above line below) two.1 (record {
       front = is;
       allowed = allowed;
       fits = grind (arith, nat_tests);
@@ -100,49 +103,52 @@ rest_told labels drafts above line below front (Ok (label, says)) said is allowe
       short = grind (arith, nat_tests);
     })
 
-pub told : (labels : List Name) (drafts : Drafts) (above : Above) (line : Line) (below : List Line) (said : Said)
-    → line_says labels drafts above line below ≡ Ok said → IsTold labels drafts above line below said
+pub told : (isa : InstructionSet) (labels : List Name) (drafts : Drafts) (above : Above) (line : Line)
+    (below : List Line) (said : Said)
+    → line_says isa labels drafts above line below ≡ Ok said → IsTold isa labels drafts above line below said
 unfolding line_says
-told labels drafts above line below said h =
+told isa labels drafts above line below said h =
     let allowed = if_err (not (list_all is_allowed (content line))) _ _ said h in
     let short = if_err (nat_lt MOST_LINE (length (content line))) _ _ said allowed.1 in
     let placed = if_err (is_misplaced (front_of (content line)) above) _ _ said short.1 in
-    rest_told labels drafts above line below (front_of (content line))
-    (rest_says drafts (rest_of (front_of (content line)) (content line))) said refl
+    rest_told isa labels drafts above line below (front_of (content line))
+    (rest_says isa drafts (rest_of (front_of (content line)) (content line))) said refl
     (not_false (list_all is_allowed (content line)) allowed.0) short.0 placed.0 refl placed.1
 
 -- ---- the first of more lines
 
-pub record IsBegun (labels : List Name) (aim : Name
+pub record IsBegun (isa : InstructionSet) (labels : List Name) (aim : Name
     → ℕ) (number : ℕ) (drafts : Drafts) (above : Above) (line : Line) (below : List Line)
     (final : Drafts) : Type 0 where
   pub said : Said
-  pub is : IsTold labels drafts above line below said
-  pub others : read_lines labels aim (number + 1) (with_said aim number said drafts) (above_next said.front said.says)
+  pub is : IsTold isa labels drafts above line below said
+  pub others : read_lines isa labels aim (number + 1) (with_said aim number said drafts)
+      (above_next said.front said.says)
       below ≡ Ok final
 
-begun_by : (labels : List Name) (aim : Name
+begun_by : (isa : InstructionSet) (labels : List Name) (aim : Name
     → ℕ) (number : ℕ) (drafts : Drafts) (above : Above) (line : Line) (below : List Line) (final : Drafts)
-    (says : Result Said LineFault) → line_says labels drafts above line below ≡ says
+    (says : Result Said LineFault) → line_says isa labels drafts above line below ≡ says
     → and_then number says
-    (λ said. read_lines labels aim (number + 1) (with_said aim number said drafts)
+    (λ said. read_lines isa labels aim (number + 1) (with_said aim number said drafts)
     (above_next said.front said.says) below)
     ≡ Ok final
-    → IsBegun labels aim number drafts above line below final
-begun_by labels aim number drafts above line below final (Err fault) says h = absurd cc
-begun_by labels aim number drafts above line below final (Ok said) says h =
-    record { said = said; is = told labels drafts above line below said says; others = h }
+    → IsBegun isa labels aim number drafts above line below final
+begun_by isa labels aim number drafts above line below final (Err fault) says h = absurd cc
+begun_by isa labels aim number drafts above line below final (Ok said) says h =
+    record { said = said; is = told isa labels drafts above line below said says; others = h }
 
-pub begun : (labels : List Name) (aim : Name
+pub begun : (isa : InstructionSet) (labels : List Name) (aim : Name
     → ℕ) (number : ℕ) (drafts : Drafts) (above : Above) (line : Line) (below : List Line) (final : Drafts)
-    → read_lines labels aim number drafts above (line ∷ below) ≡ Ok final
-    → IsBegun labels aim number drafts above line below final
+    → read_lines isa labels aim number drafts above (line ∷ below) ≡ Ok final
+    → IsBegun isa labels aim number drafts above line below final
 unfolding read_lines
-begun labels aim number drafts above line below final h =
-    begun_by labels aim number drafts above line below final (line_says labels drafts above line below) refl h
+begun isa labels aim number drafts above line below final h =
+    begun_by isa labels aim number drafts above line below final (line_says isa labels drafts above line below) refl h
 
-pub over : (labels : List Name) (aim : Name → ℕ) (number : ℕ) (drafts : Drafts) (above : Above) (final : Drafts)
-    → read_lines labels aim number drafts above [] ≡ Ok final
+pub over : (isa : InstructionSet) (labels : List Name) (aim : Name → ℕ) (number : ℕ) (drafts : Drafts) (above : Above)
+    (final : Drafts)
+    → read_lines isa labels aim number drafts above [] ≡ Ok final
     → drafts ≡ final
 unfolding read_lines
-over labels aim number drafts above final h = cc
+over isa labels aim number drafts above final h = cc

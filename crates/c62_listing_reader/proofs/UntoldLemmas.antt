@@ -21,6 +21,8 @@ use Rattle.c62_listing_reader.proofs.TextLemmas.{before_feed, fed}
 use Rattle.c62_listing_reader.proofs.ToldLemmas.{IsTold}
 use Rattle.c62_listing_reader.proofs.ToldLines.{bars_field, line_parts}
 use Rattle.c62_line.specs.declared.limits.TheConstants.{MOST_LINE}
+use Rattle.c62_op.specs.declared.set.InstructionSet.{InstructionSet}
+use Rattle.c62_op.specs.Takes.{takes_in}
 
 -- ---- the lines of a text that is made of lines
 
@@ -58,11 +60,12 @@ contents_back (line ∷ lines) all = grind (arith, nat_tests, fed_content line, 
 
 -- ---- what has no fault, is told
 
-pub untold : (labels : List Name) (drafts : Drafts) (above : Above) (line : Line) (below : List Line) (said : Said)
-    → IsTold labels drafts above line below said
-    → line_says labels drafts above line below ≡ Ok said
+pub untold : (isa : InstructionSet) (labels : List Name) (drafts : Drafts) (above : Above) (line : Line)
+    (below : List Line) (said : Said)
+    → IsTold isa labels drafts above line below said
+    → line_says isa labels drafts above line below ≡ Ok said
 unfolding line_says
-untold labels drafts above line below said is = grind (arith, nat_tests)
+untold isa labels drafts above line below said is = grind (arith, nat_tests)
 
 -- ---- what reading asks of bytes
 
@@ -72,10 +75,11 @@ pub record IsRead (line : List ℕ) (label : Option Name) : Type 0 where
   pub fits : length line ≤ MOST_LINE
   pub field : label_field line ≡ label
 
-pub line_read : (line : List ℕ) (label : Option Name) (says : Says) → line_of line ≡ Ok (label, says)
+pub line_read : (isa : InstructionSet) (line : List ℕ) (label : Option Name) (says : Says)
+    → line_of isa line ≡ Ok (label, says)
     → IsRead line label
-line_read line label says h =
-    let parts = line_parts line label says h in
+line_read isa line label says h =
+    let parts = line_parts isa line label says h in
     let read = head_read line label parts.words parts.head in
     record {
       allowed = read.allowed;
@@ -86,11 +90,11 @@ line_read line label says h =
 
 -- ---- the lines of a block but its label
 
-pub record IsPlain (bytes : List ℕ) (front : Front) (says : Says) : Type 0 where
+pub record IsPlain (isa : InstructionSet) (bytes : List ℕ) (front : Front) (says : Says) : Type 0 where
   pub allowed : are_allowed bytes ≡ true
   pub fits : length bytes ≤ MOST_LINE
   pub begins : front ≡ front_of bytes
-  pub line : line_of (rest_of front bytes) ≡ Ok (None, says)
+  pub line : line_of isa (rest_of front bytes) ≡ Ok (None, says)
   pub field : label_field bytes ≡ None
   pub spelled : is_text bytes (spelled_line front None says) ≡ true
   pub filled : is_empty bytes ≡ false
@@ -98,10 +102,11 @@ pub record IsPlain (bytes : List ℕ) (front : Front) (says : Says) : Type 0 whe
 pub same_bytes : (bytes : List ℕ) → bytes_eq bytes bytes ≡ true
 same_bytes bytes = (bytes_eq-Decides bytes bytes).1 refl
 
-pub pause_plain : (n : ℕ) → 1 ≤ n → n ≤ 9 → IsPlain (pause_line n) First (Pause n)
-pause_plain n some few =
-    let line : line_of (pause_line n) ≡ Ok (None, Pause n) = pause_back n (codes "   ") some few refl (omega arith) in
-    let read = line_read (pause_line n) None (Pause n) line in
+pub pause_plain : (isa : InstructionSet) (n : ℕ) → 1 ≤ n → n ≤ 9 → IsPlain isa (pause_line n) First (Pause n)
+pause_plain isa n some few =
+    let line : line_of isa (pause_line n) ≡ Ok (None, Pause n) =
+    pause_back isa n (codes "   ") some few refl (omega arith) in
+    let read = line_read isa (pause_line n) None (Pause n) line in
     record {
       allowed = read.allowed;
       fits = read.fits;
@@ -126,15 +131,16 @@ line_spelled name front insn unit =
     rw (says_spelled name front insn unit (operands_of insn) refl)
     (same_bytes (front_spelling front ++ spelling name insn unit))
 
-pub first_plain : (name : ℕ → List ℕ) (insn : Insn) (unit : FunctionalUnit)
-    → takes (op_of insn) (operands_of insn) unit ≡ true
+pub first_plain : (isa : InstructionSet) (name : ℕ → List ℕ) (insn : Insn) (unit : FunctionalUnit)
+    → takes_in isa (op_of insn) (operands_of insn) unit ≡ true
     → NamesTarget name (operands_of insn)
-    → IsPlain (codes "   " ++ spelling name insn unit) First (says_on name insn unit)
-first_plain name insn unit taking names =
+    → IsPlain isa (codes "   " ++ spelling name insn unit) First (says_on name insn unit)
+first_plain isa name insn unit taking names =
     let bytes : List ℕ = codes "   " ++ spelling name insn unit in
-    let line : line_of bytes ≡ Ok (None, says_on name insn unit) = spelled_back name insn unit (codes "   ") taking
+    let line : line_of isa bytes ≡ Ok (None, says_on name insn unit) =
+    spelled_back isa name insn unit (codes "   ") taking
     names refl (omega arith) in
-    let read = line_read bytes None (says_on name insn unit) line in
+    let read = line_read isa bytes None (says_on name insn unit) line in
     record {
       allowed = read.allowed;
       fits = read.fits;
@@ -145,18 +151,18 @@ first_plain name insn unit taking names =
       filled = refl;
     }
 
-pub beside_plain : (name : ℕ → List ℕ) (insn : Insn) (unit : FunctionalUnit)
-    → takes (op_of insn) (operands_of insn) unit ≡ true
+pub beside_plain : (isa : InstructionSet) (name : ℕ → List ℕ) (insn : Insn) (unit : FunctionalUnit)
+    → takes_in isa (op_of insn) (operands_of insn) unit ≡ true
     → NamesTarget name (operands_of insn)
-    → IsPlain (codes "|| " ++ spelling name insn unit) Beside (says_on name insn unit)
-beside_plain name insn unit taking names =
+    → IsPlain isa (codes "|| " ++ spelling name insn unit) Beside (says_on name insn unit)
+beside_plain isa name insn unit taking names =
     let text : List ℕ = spelling name insn unit in
-    let line : line_of (codes " " ++ text) ≡ Ok (None, says_on name insn unit) =
-    spelled_back name insn unit (codes " ") taking names refl (omega arith) in
-    let longer : line_of (codes "   " ++ text) ≡ Ok (None, says_on name insn unit) =
-    spelled_back name insn unit (codes "   ") taking names refl (omega arith) in
-    let read = line_read (codes " " ++ text) None (says_on name insn unit) line in
-    let long = line_read (codes "   " ++ text) None (says_on name insn unit) longer in
+    let line : line_of isa (codes " " ++ text) ≡ Ok (None, says_on name insn unit) =
+    spelled_back isa name insn unit (codes " ") taking names refl (omega arith) in
+    let longer : line_of isa (codes "   " ++ text) ≡ Ok (None, says_on name insn unit) =
+    spelled_back isa name insn unit (codes "   ") taking names refl (omega arith) in
+    let read = line_read isa (codes " " ++ text) None (says_on name insn unit) line in
+    let long = line_read isa (codes "   " ++ text) None (says_on name insn unit) longer in
     record {
       allowed = read.allowed;
       fits = long.fits;

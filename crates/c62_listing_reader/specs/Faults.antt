@@ -28,6 +28,7 @@ use Rattle.c62_listing_reader.specs.Text.{Line, lines_in, content, is_ended, beg
 use Rattle.c62_listing_reader.specs.Begin.{has_colon, front_of, rest_of, is_gap, is_beside}
 use Rattle.c62_listing_reader.specs.Said.{Said, part_of, Draft, Drafts, no_drafts, all_drafts, opened, with_said, above_next, names_in, labels_of, aim_by, spelled_line, is_text}
 use Rattle.c62_line.specs.declared.limits.TheConstants.{MOST_LINE}
+use Rattle.c62_op.specs.declared.set.InstructionSet.{InstructionSet}
 
 -- ---- what the line above says
 
@@ -142,16 +143,16 @@ with_rest labels drafts above line below front (Ok (label, says)) =
 abbrev pub rest_read_as : Drafts → List ℕ → Result (Option Name × Says) Cause → Result (Option Name × Says) Cause
 rest_read_as drafts rest read = after_label (is_taken (label_field rest) drafts) (has_colon rest) read
 
-abbrev pub rest_says : Drafts → List ℕ → Result (Option Name × Says) Cause
-rest_says drafts rest = rest_read_as drafts rest (line_of rest)
+abbrev pub rest_says : InstructionSet → Drafts → List ℕ → Result (Option Name × Says) Cause
+rest_says isa drafts rest = rest_read_as drafts rest (line_of isa rest)
 
 -- what a line says, or its first fault
-unfoldable pub line_says : List Name → Drafts → Above → Line → List Line → Result Said LineFault
-line_says labels drafts above line below =
+unfoldable pub line_says : InstructionSet → List Name → Drafts → Above → Line → List Line → Result Said LineFault
+line_says isa labels drafts above line below =
     if not (list_all is_allowed (content line)) then Err (Read NotAscii)
     else (if nat_lt MOST_LINE (length (content line)) then Err (Read LineTooLong)
     else (if is_misplaced (front_of (content line)) above then Err Shape
-    else with_rest labels drafts above line below (front_of (content line)) (rest_says drafts (rest_of (front_of (content line)) (content line)))))
+    else with_rest labels drafts above line below (front_of (content line)) (rest_says isa drafts (rest_of (front_of (content line)) (content line)))))
 
 -- ---- the faults of a text
 
@@ -163,10 +164,10 @@ and_then number (Ok said) next = next said
 and_then number (Err fault) next = Err (number, fault)
 
 -- the blocks with what these lines say, of which the first has this number, or the first faulty line with its fault
-unfoldable pub read_lines : List Name → (Name → ℕ) → ℕ → Drafts → Above → List Line → Result Drafts Refusal
-read_lines labels aim number drafts above [] = Ok drafts
-read_lines labels aim number drafts above (line ∷ below) =
-    and_then number (line_says labels drafts above line below) (λ said. read_lines labels aim (number + 1) (with_said aim number said drafts) (above_next said.front said.says) below)
+unfoldable pub read_lines : InstructionSet → List Name → (Name → ℕ) → ℕ → Drafts → Above → List Line → Result Drafts Refusal
+read_lines isa labels aim number drafts above [] = Ok drafts
+read_lines isa labels aim number drafts above (line ∷ below) =
+    and_then number (line_says isa labels drafts above line below) (λ said. read_lines isa labels aim (number + 1) (with_said aim number said drafts) (above_next said.front said.says) below)
 
 abbrev pub contents : List ℕ → List (List ℕ)
 contents text = map content (lines_in text)
@@ -174,10 +175,10 @@ contents text = map content (lines_in text)
 abbrev pub most_bytes : ℕ
 most_bytes = MOST_BYTES
 
-abbrev pub drafts_in : List ℕ → Result Drafts Refusal
-drafts_in text =
+abbrev pub drafts_in : InstructionSet → List ℕ → Result Drafts Refusal
+drafts_in isa text =
     if nat_lt most_bytes (length text) then Err (0, Read TextTooLong)
-    else read_lines (labels_of (names_in 0 (contents text))) (aim_by (names_in 0 (contents text))) 1 no_drafts Start (lines_in text)
+    else read_lines isa (labels_of (names_in 0 (contents text))) (aim_by (names_in 0 (contents text))) 1 no_drafts Start (lines_in text)
 
 abbrev pub draft_of : Packed → Draft
 draft_of block = record { label = block.label; cycles = block.cycles; placed = map part_of block.placed }
@@ -199,14 +200,14 @@ pub record IsFirstFaulty (drafts : List Draft) (number : ℕ) (fault : BlockFaul
   pub are_blocks : All IsPacketBlock blocks
 
 -- no line of the text has a fault, and this block is the first that has one
-pub record IsFaulty (text : List ℕ) (number : ℕ) (fault : BlockFault) : Type 0 where
+pub record IsFaulty (isa : InstructionSet) (text : List ℕ) (number : ℕ) (fault : BlockFault) : Type 0 where
   pub drafts : Drafts
-  pub said : drafts_in text ≡ Ok drafts
+  pub said : drafts_in isa text ≡ Ok drafts
   pub block : IsFirstFaulty (all_drafts drafts) number fault
 
 -- the packets are the blocks that the lines say, and no line has a fault
-pub record IsRead (text : List ℕ) (packets : List Packed) : Type 0 where
+pub record IsRead (isa : InstructionSet) (text : List ℕ) (packets : List Packed) : Type 0 where
   pub drafts : Drafts
-  pub said : drafts_in text ≡ Ok drafts
+  pub said : drafts_in isa text ≡ Ok drafts
   pub blocks : map draft_of packets ≡ all_drafts drafts
   pub are_blocks : All IsPacketBlock packets

@@ -27,6 +27,7 @@ use Rattle.c62_listing_reader.specs.Said.{Said, part_of, Draft, Drafts, all_draf
 use Rattle.c62_listing_reader.specs.Begin.{is_beside, rest_of}
 use Rattle.c62_listing_reader.specs.Fine.{IsFine}
 use Rattle.c62_listing_reader.specs.Faults.{Refusal, contents, drafts_in, draft_of, line_says, read_lines, rest_says, with_rest, is_unfit, is_odd, unless_odd, IsFaulted, IsFirstFaulty, IsFaulty, cycles_added}
+use Rattle.c62_op.specs.declared.set.InstructionSet.{InstructionSet}
 
 abbrev pub draft_open : OpenBlock → Draft
 draft_open block = record { label = block.label; cycles = block.cycles; placed = map part_of block.placed.items }
@@ -49,8 +50,8 @@ abbrev pub Fails : LineFault → Result Said LineFault → Type 0
 Fails fault says = (fault ≡ MemoryLine) ⊎ (says ≡ Err fault)
 
 -- the blocks that the lines of a text say, or the first faulty line with its fault
-abbrev pub lines_read : Names → Result Drafts Refusal
-lines_read names = read_lines (labels_of (entries_of names)) (aim_by (entries_of names)) 1 no_drafts Start (lines_in names.text.now)
+abbrev pub lines_read : InstructionSet → Names → Result Drafts Refusal
+lines_read isa names = read_lines isa (labels_of (entries_of names)) (aim_by (entries_of names)) 1 no_drafts Start (lines_in names.text.now)
 
 -- the open block has what a line says too
 abbrev pub AddsSays : Names → Bool → ℕ → Says → OpenBlock → OpenBlock → Type 0
@@ -72,11 +73,11 @@ RefusesLines says Memory = Unit {0}
 RefusesLines says _ = ⊥
 
 -- the blocks that the lines of a text say, each fine and no more than there may be, or its first faulty line
-abbrev pub ReadsBlocks : Names → Result Blocks ListFault → Type 0
-ReadsBlocks names read = MatchResult read
-    (λ blocks. (lines_read names ≡ Ok (drafts_of blocks)) × All IsFine (all_drafts (drafts_of blocks))
+abbrev pub ReadsBlocks : InstructionSet → Names → Result Blocks ListFault → Type 0
+ReadsBlocks isa names read = MatchResult read
+    (λ blocks. (lines_read isa names ≡ Ok (drafts_of blocks)) × All IsFine (all_drafts (drafts_of blocks))
     × (length (all_drafts (drafts_of blocks)) ≤ MOST_BLOCKS))
-    (λ fault. RefusesLines (lines_read names) fault)
+    (λ fault. RefusesLines (lines_read isa names) fault)
 
 -- the answer is right wherever the line of this number has this fault, or memory ran out
 abbrev pub TellsOfLine : ℕ → LineFault → ListFault → Type 0
@@ -99,13 +100,13 @@ PacksBlocks drafts packed = MatchResult packed
     (λ packets. (map draft_of packets ≡ drafts) × All IsPacketBlock packets)
     (λ fault. RefusesBlocks drafts fault)
 
-abbrev pub Refuses : List ℕ → ListFault → Type 0
-Refuses text (Read fault) = drafts_in text ≡ Err (fault.line, ReadLine fault.cause)
-Refuses text (Shape line) = drafts_in text ≡ Err (line, ShapeLine)
-Refuses text (Branches number) = IsFaulty text number TwoBranches
-Refuses text (Undrained number) = IsFaulty text number NotDrained
-Refuses text (UnlawfulBlock number cycle rule) = IsFaulty text number (Unlawful cycle rule)
-Refuses text Memory = Unit {0}
+abbrev pub Refuses : InstructionSet → List ℕ → ListFault → Type 0
+Refuses isa text (Read fault) = drafts_in isa text ≡ Err (fault.line, ReadLine fault.cause)
+Refuses isa text (Shape line) = drafts_in isa text ≡ Err (line, ShapeLine)
+Refuses isa text (Branches number) = IsFaulty isa text number TwoBranches
+Refuses isa text (Undrained number) = IsFaulty isa text number NotDrained
+Refuses isa text (UnlawfulBlock number cycle rule) = IsFaulty isa text number (Unlawful cycle rule)
+Refuses isa text Memory = Unit {0}
 
 -- where the text says this of a line, the line is judged so: nothing stands against it, or a fault
 abbrev pub Judges : Result Said LineFault → Said → Result Unit LineFault → Type 0
@@ -125,13 +126,13 @@ abbrev pub saying : Names → Drafts → Above → Cut → Front → Result (Opt
 saying names drafts above cut front read =
     with_rest (labels_of (entries_of names)) drafts above (line_cut cut) (lines_in cut.rest.now) front read
 
-abbrev pub rest_saying : Names → Drafts → Above → Cut → Front → Result Said LineFault
-rest_saying names drafts above cut front =
-    saying names drafts above cut front (rest_says drafts (rest_of front (content (line_cut cut))))
+abbrev pub rest_saying : InstructionSet → Names → Drafts → Above → Cut → Front → Result Said LineFault
+rest_saying isa names drafts above cut front =
+    saying names drafts above cut front (rest_says isa drafts (rest_of front (content (line_cut cut))))
 
-abbrev pub line_saying : Names → Drafts → Above → Cut → Result Said LineFault
-line_saying names drafts above cut =
-    line_says (labels_of (entries_of names)) drafts above (line_cut cut) (lines_in cut.rest.now)
+abbrev pub line_saying : InstructionSet → Names → Drafts → Above → Cut → Result Said LineFault
+line_saying isa names drafts above cut =
+    line_says isa (labels_of (entries_of names)) drafts above (line_cut cut) (lines_in cut.rest.now)
 
 -- a line whose rest reads so is judged
 abbrev pub JudgesReading : Names → Drafts → Above → Cut → Front → Reading → Result Unit LineFault → Type 0

@@ -21,6 +21,7 @@ use crate::spelled::is_spelled;
 use crate::text::{Cut, begins_filled, content, is_ended};
 use c62_insn::Unit;
 use c62_line::MOST_LINE;
+use c62_op::InstructionSet;
 use c62_packet::MOST_CYCLES;
 use c62_read::{Cause, Label, MOST_INSTRUCTIONS, ReadFault, Reading, What, label_field};
 use c62_token::scan_line;
@@ -293,6 +294,7 @@ fn with_reading(
 
 /// Whether nothing stands against a line whose rest reads so. The label that is read is the one in its label field.
 fn with_rest(
+    isa: InstructionSet,
     spelling: &mut String,
     names: &Names<'_>,
     blocks: &Blocks,
@@ -301,8 +303,8 @@ fn with_rest(
     front: Front,
     read: &Result<Reading, ReadFault>,
 ) -> Result<(), LineFault>
-    requires { read_as read.now ≡ line_of (rest_of front (content (line_cut cut.now))) }
-    ensures judged { JudgesRead (rest_saying names.now (drafts_of blocks.now) above cut.now front) front read.now result }
+    requires { read_as read.now ≡ line_of isa (rest_of front (content (line_cut cut.now))) }
+    ensures judged { JudgesRead (rest_saying isa names.now (drafts_of blocks.now) above cut.now front) front read.now result }
     ensures ok { OnOk result (IsOk read.now) }
 {
     match read {
@@ -322,9 +324,14 @@ fn with_rest(
 }
 
 /// Whether all bytes of a line are allowed whose rest reads so. Those of a rest that is read are.
-fn has_text(line: &[u8], front: Front, read: &Result<Reading, ReadFault>) -> bool
+fn has_text(
+    isa: InstructionSet,
+    line: &[u8],
+    front: Front,
+    read: &Result<Reading, ReadFault>,
+) -> bool
     requires front { front ≡ front_of line.now }
-    requires read { read_as read.now ≡ line_of (rest_of front line.now) }
+    requires read { read_as read.now ≡ line_of isa (rest_of front line.now) }
     ensures { result ≡ list_all is_allowed line.now }
 {
     match read {
@@ -344,6 +351,7 @@ fn has_text(line: &[u8], front: Front, read: &Result<Reading, ReadFault>) -> boo
 /// The first fault of the line, or `Memory` where memory ran out.
 #[tactic(auto, unfolding(crate::specs::Faults::line_says))]
 pub fn judge(
+    isa: InstructionSet,
     spelling: &mut String,
     names: &Names<'_>,
     blocks: &Blocks,
@@ -353,12 +361,12 @@ pub fn judge(
     read: &Result<Reading, ReadFault>,
 ) -> Result<(), LineFault>
     requires front { front ≡ front_of (content (line_cut cut.now)) }
-    requires read { read_as read.now ≡ line_of (rest_of front (content (line_cut cut.now))) }
-    ensures judged { JudgesRead (line_saying names.now (drafts_of blocks.now) above cut.now) front read.now result }
+    requires read { read_as read.now ≡ line_of isa (rest_of front (content (line_cut cut.now))) }
+    ensures judged { JudgesRead (line_saying isa names.now (drafts_of blocks.now) above cut.now) front read.now result }
     ensures ok { OnOk result (IsOk read.now) }
 {
     let line = content(cut);
-    if !has_text(line, front, read) {
+    if !has_text(isa, line, front, read) {
         return Err(LineFault::Read(Cause::NotAscii));
     }
     if line.len() > MOST_LINE {
@@ -367,5 +375,5 @@ pub fn judge(
     if is_misplaced(front, above) {
         return Err(LineFault::Shape);
     }
-    with_rest(spelling, names, blocks, above, cut, front, read)
+    with_rest(isa, spelling, names, blocks, above, cut, front, read)
 }

@@ -19,6 +19,7 @@ use crate::judge::{is_beside, is_gap, judge};
 use crate::line::{Above, Front, beginning, rest};
 use crate::names::Names;
 use crate::text::{content, first_line};
+use c62_op::InstructionSet;
 use c62_packet::{BlockFault, PacketBlock, Packets};
 use c62_read::{Cause, ReadFault, Reading, What, read_insn};
 use std::alloc::{AllocError, Global};
@@ -119,10 +120,10 @@ impl Blocks {
 }
 
 /// What the rest of a line says.
-fn read_rest(front: Front, line: &[u8]) -> Result<Reading, ReadFault>
-    ensures { read_as result ≡ line_of (rest_of front line.now) }
+fn read_rest(isa: InstructionSet, front: Front, line: &[u8]) -> Result<Reading, ReadFault>
+    ensures { read_as result ≡ line_of isa (rest_of front line.now) }
 {
-    read_insn(rest(front, line))
+    read_insn(isa, rest(front, line))
 }
 
 fn fault_of_line(line: u32, fault: LineFault) -> ListFault
@@ -136,9 +137,9 @@ fn fault_of_line(line: u32, fault: LineFault) -> ListFault
 }
 
 /// The blocks that the lines of a text say.
-fn read_blocks(alloc: Global, names: &Names<'_>) -> Result<Blocks, ListFault>
+fn read_blocks(isa: InstructionSet, alloc: Global, names: &Names<'_>) -> Result<Blocks, ListFault>
     requires { length names.now.text.now ≤ MOST_BYTES }
-    ensures { ReadsBlocks names.now result }
+    ensures { ReadsBlocks isa names.now result }
 {
     let mut spelling = String::with_capacity(alloc, LONGEST_LINE)?;
     let mut blocks = Blocks::new(alloc);
@@ -147,8 +148,17 @@ fn read_blocks(alloc: Global, names: &Names<'_>) -> Result<Blocks, ListFault>
     let mut rest = names.text;
     while let Some(cut) = first_line(rest) {
         let front = beginning(content(&cut));
-        let read = read_rest(front, content(&cut));
-        match judge(&mut spelling, names, &blocks, above, &cut, front, &read) {
+        let read = read_rest(isa, front, content(&cut));
+        match judge(
+            isa,
+            &mut spelling,
+            names,
+            &blocks,
+            above,
+            &cut,
+            front,
+            &read,
+        ) {
             Ok(()) => {}
             Err(fault) => return Err(fault_of_line(number, fault)),
         }
@@ -217,8 +227,8 @@ fn packets_of(alloc: Global, blocks: Vec<OpenBlock>) -> Result<Packets, ListFaul
 /// `Read` with `TextTooLong` where the text has more than [`MOST_BYTES`] bytes. Else the first fault of the first faulty line.
 /// Else, for the first faulty block, `TwoBranches`, `NotDrained` or `Unlawful`. `Memory` where memory ran out
 /// (`docs/LISTING.md`, "Faults of a line" and "Faults of a block").
-pub fn read_listing(alloc: Global, text: &[u8]) -> Result<Packets, ListFault>
-    ensures read { MatchResult result (λ packets. IsRead text.now packets) (λ fault. Refuses text.now fault) }
+pub fn read_listing(isa: InstructionSet, alloc: Global, text: &[u8]) -> Result<Packets, ListFault>
+    ensures read { MatchResult result (λ packets. IsRead isa text.now packets) (λ fault. Refuses isa text.now fault) }
     ensures closed { IfOk result (λ packets. IsTrue (is_closed packets)) }
 {
     if text.len() > MOST_BYTES {
@@ -228,7 +238,7 @@ pub fn read_listing(alloc: Global, text: &[u8]) -> Result<Packets, ListFault>
         }));
     }
     let names = Names::new(alloc, text)?;
-    let mut blocks = read_blocks(alloc, &names)?;
+    let mut blocks = read_blocks(isa, alloc, &names)?;
     blocks.end_block()?;
     packets_of(alloc, blocks.done)
 }

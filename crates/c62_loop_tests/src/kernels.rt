@@ -2,6 +2,7 @@
 
 use crate::expect::equal_in;
 use c62_kernels::{Fixed, Graph, OF_LOOPS, least_interval, schedule_of};
+use c62_op::InstructionSet;
 use c62_pair::RegSet;
 use c62_read::read_program;
 use std::alloc::{AllocError, Global};
@@ -33,7 +34,7 @@ const LOOPS: [(&str, u16, u16); 4] = [
 
 /// The least interval of a loop, and the passes of its schedule.
 fn found(alloc: Global, text: &str) -> Result<Option<(u16, u16)>, AllocError> {
-    let Ok(program) = read_program(alloc, text.as_bytes()) else {
+    let Ok(program) = read_program(InstructionSet::Core, alloc, text.as_bytes()) else {
         return Ok(None);
     };
     let Some(block) = program.blocks().first() else {

@@ -4,6 +4,7 @@ use crate::expect::equal_in;
 use c62_insn::Reg;
 use c62_loop_bound::least_interval;
 use c62_loop_match::{Promise, Region, is_counted_loop};
+use c62_op::InstructionSet;
 use c62_pair::RegSet;
 use c62_read::{Program, SerialInsn, number, read_program};
 use std::alloc::{AllocError, Global};
@@ -122,7 +123,7 @@ fn promise_of(words: &str) -> Promise {
 
 /// A loop with nothing before and behind it.
 fn region_of(alloc: Global, text: &str, counter: Reg) -> Result<Option<Region>, AllocError> {
-    let Ok(program) = read_program(alloc, text.as_bytes()) else {
+    let Ok(program) = read_program(InstructionSet::Core, alloc, text.as_bytes()) else {
         return Ok(None);
     };
     let Some(block) = program.blocks().first() else {

@@ -3,6 +3,7 @@
 use crate::expect::equal;
 use c62_insn::{Reg, Side};
 use c62_loop_match::{Control, Pipelined, Promise, Region, Schedule, Stage, decide};
+use c62_op::InstructionSet;
 use c62_packet::Placed;
 use c62_pair::RegSet;
 use c62_read::{SerialInsn, read_program};
@@ -91,10 +92,10 @@ fn region(alloc: Global, body: Vec<SerialInsn>) -> Region {
 
 /// What is decided of the packets, where prolog and epilog are to hold so many iterations.
 fn decided(alloc: Global, packets: &str, most: u8) -> Result<Option<bool>, AllocError> {
-    let Ok(program) = read_program(alloc, SUM.as_bytes()) else {
+    let Ok(program) = read_program(InstructionSet::Core, alloc, SUM.as_bytes()) else {
         return Ok(None);
     };
-    let Ok(read) = read_rows(alloc, packets.as_bytes()) else {
+    let Ok(read) = read_rows(InstructionSet::Core, alloc, packets.as_bytes()) else {
         return Ok(None);
     };
     let Some(block) = program.blocks().first() else {

@@ -3,6 +3,7 @@
 use crate::expect::equal;
 use c62_loop_match::Pipelined;
 use c62_loop_text::push_loop;
+use c62_op::InstructionSet;
 use c62_read::read_program;
 use c62_rows::read_rows;
 use std::alloc::{AllocError, Global};
@@ -15,10 +16,10 @@ const TEXT: &str =
 /// The text's packets, written again.
 fn written(alloc: Global) -> Result<String, AllocError> {
     let mut out = String::new(alloc);
-    let Ok(program) = read_program(alloc, b"L: B L") else {
+    let Ok(program) = read_program(InstructionSet::Core, alloc, b"L: B L") else {
         return Ok(out);
     };
-    let Ok(read) = read_rows(alloc, TEXT.as_bytes()) else {
+    let Ok(read) = read_rows(InstructionSet::Core, alloc, TEXT.as_bytes()) else {
         return Ok(out);
     };
     let pipelined = Pipelined {

@@ -4,6 +4,7 @@ use crate::expect::equal_in;
 use c62_insn::Reg;
 use c62_loop_match::{Promise, Region};
 use c62_modulo::{Made, Shortness, Terms, pipelined};
+use c62_op::InstructionSet;
 use c62_pair::RegSet;
 use c62_read::{Block, Program, SerialInsn, number, read_program};
 use std::alloc::{AllocError, Global};
@@ -61,7 +62,7 @@ fn region_of(alloc: Global, blocks: &[Block], counter: Reg) -> Result<Region, Al
 }
 
 fn made_of(alloc: Global, row: &Row) -> Result<Option<Made>, AllocError> {
-    let Ok(program) = read_program(alloc, row.text.as_bytes()) else {
+    let Ok(program) = read_program(InstructionSet::Core, alloc, row.text.as_bytes()) else {
         return Ok(None);
     };
     let Some(counter) = number::register(row.counter.as_bytes()) else {

@@ -7,6 +7,7 @@ ghost use Rattle.c62_packet.specs.Packed.{listing_position, IsInListingOrder, St
 use crate::expect::{equal, equal_in};
 use c62_insn::Reg;
 use c62_insn::Side::{self, A, B};
+use c62_op::InstructionSet;
 use c62_packet::{MOST_CYCLES, PacketBlock, Packets, Placed};
 use c62_pipe::{Pipe, run_chain};
 use c62_read::{Label, MOST_BLOCKS, MOST_INSTRUCTIONS, What, read_insn};
@@ -108,7 +109,7 @@ fn line_of(row: &str, line: u32, cycles: u16) -> Option<Line>
         Some(rest) => (rest, cycles.saturating_sub(1)),
         None => (row, cycles),
     };
-    let reading = read_insn(row.as_bytes()).ok()?;
+    let reading = read_insn(InstructionSet::Core, row.as_bytes()).ok()?;
     let (insn, pause) = match reading.what {
         What::Empty => (None, 0),
         What::Nop(count) => (None, u16::from(count)),

@@ -2,6 +2,7 @@
 
 use crate::expect::equal;
 use c62_apart::{meetings_of, push_loops};
+use c62_op::InstructionSet;
 use c62_read::read_program;
 use c62_serial::State;
 use c62_token::number::register;
@@ -84,7 +85,7 @@ fn accesses_that_meet(rt: HostRuntime) -> Result<(), Fail> {
         }
     }
     for (text, want) in RUNS.iter() {
-        let program = read_program(rt.alloc(), text.as_bytes())?;
+        let program = read_program(InstructionSet::Core, rt.alloc(), text.as_bytes())?;
         let mut state = State::new(rt.alloc())?;
         let met = meetings_of(rt.alloc(), &program, &regs, &mut state, 20)?;
         let mut told = Vec::new(rt.alloc());
@@ -97,7 +98,7 @@ fn accesses_that_meet(rt: HostRuntime) -> Result<(), Fail> {
 /// The lines of a loop in which A4 and B4 begin at the same address, that address being set.
 fn told_of(alloc: Global, base: u32, address: u32) -> Result<Vec<u8>, Fail> {
     let text = b"MVK 2,A1\nL: LDW *A4++,A2\nSTW A2,*B4\nSUB A1,1,A1\n[A1] B L\n";
-    let program = read_program(alloc, text)?;
+    let program = read_program(InstructionSet::Core, alloc, text)?;
     let mut state = State::new(alloc)?;
     state.set_base(base);
     let mut regs = Vec::new(alloc);

@@ -2,6 +2,7 @@
 
 use crate::expect::equal;
 use c62_faulted::{faults_of, push_faults};
+use c62_op::InstructionSet;
 use c62_read::read_program;
 use c62_serial::State;
 use std::test::Fail;
@@ -42,7 +43,7 @@ const RUNS: [(&str, &str); 9] = [
 #[test]
 fn faults_of_runs(rt: HostRuntime) -> Result<(), Fail> {
     for (text, want) in RUNS.iter() {
-        let program = read_program(rt.alloc(), text.as_bytes())?;
+        let program = read_program(InstructionSet::Core, rt.alloc(), text.as_bytes())?;
         let mut state = State::new(rt.alloc())?;
         let faults = faults_of(rt.alloc(), &program, &mut state, 20)?;
         let mut told = Vec::new(rt.alloc());
@@ -64,7 +65,7 @@ const ELSEWHERE: [(&str, &str); 2] = [
 #[test]
 fn faults_where_memory_begins_elsewhere(rt: HostRuntime) -> Result<(), Fail> {
     for (text, want) in ELSEWHERE.iter() {
-        let program = read_program(rt.alloc(), text.as_bytes())?;
+        let program = read_program(InstructionSet::Core, rt.alloc(), text.as_bytes())?;
         let mut state = State::new(rt.alloc())?;
         state.set_base(0x8000_0000);
         let faults = faults_of(rt.alloc(), &program, &mut state, 20)?;

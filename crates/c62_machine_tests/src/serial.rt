@@ -3,6 +3,7 @@
 use crate::expect::{equal, equal_in};
 use c62_insn::Side::{self, A, B};
 use c62_insn::{AddressForm, Insn, Offset, Op, Operands, Reg};
+use c62_op::InstructionSet;
 use c62_read::{Program, ReadFault, read_program};
 use c62_serial::{Chain, End, State, run_block, run_program};
 use std::alloc::Global;
@@ -158,7 +159,7 @@ fn check_rows(rt: &impl Abort, alloc: Global, rows: &[&str]) -> Result<(), Fail>
     for row in rows {
         let (text, rest) = row.split_once(" | ").expect(rt, "a text");
         let (settings, want) = rest.split_once(" | ").expect(rt, "settings");
-        let program = read_program(alloc, &lines(alloc, text)?)?;
+        let program = read_program(InstructionSet::Core, alloc, &lines(alloc, text)?)?;
         let Opening { mut state, limit } = Opening::new(rt, alloc, settings)?;
         let chain = run_program(&program, &mut state, limit)?;
         let found = report(alloc, chain, &state)?;
@@ -293,7 +294,7 @@ fn greatest_size(rt: HostRuntime) -> Result<(), Fail> {
             text.push_str("LDH *A4,A5\n")?;
         }
     }
-    let program = read_program(alloc, text.as_bytes())?;
+    let program = read_program(InstructionSet::Core, alloc, text.as_bytes())?;
     let mut state = State::new(alloc)?;
     state.set(A4, 1);
     let want = Chain {
@@ -315,7 +316,7 @@ fn two_blocks(alloc: Global) -> Result<Program, ReadFault> {
     for _ in 0..30u8 {
         text.push_str("MVK 3,A5\n")?;
     }
-    read_program(alloc, text.as_bytes())
+    read_program(InstructionSet::Core, alloc, text.as_bytes())
 }
 
 /// Want of memory leaves a state at the start of a block.

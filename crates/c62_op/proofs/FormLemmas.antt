@@ -10,7 +10,7 @@ use Rattle.c62_op.specs.declared.register.Letter.{Letter}
 use Rattle.c62_op.specs.declared.register.Letter.TheVariants.{D}
 use Rattle.c62_op.specs.declared.register.Unit.{Unit as FunctionalUnit}
 use Rattle.c62_op.specs.declared.operands.Op.{Op}
-use Rattle.c62_op.specs.declared.operands.Op.TheVariants.{Add, Sub, Shl, Shr, Shru}
+use Rattle.c62_op.specs.declared.operands.Op.TheVariants.{Add, Sub, Shl, Shr, Shru, Ext, Extu, Set, Clr, Sshl, Ssub}
 use Rattle.c62_op.specs.declared.operands.AddressForm.{AddressForm}
 use Rattle.c62_op.specs.declared.operands.Offset.{Offset}
 use Rattle.c62_op.specs.declared.operands.Offset.TheVariants.{Constant as ByConstant, Register as ByRegister}
@@ -22,10 +22,12 @@ use Rattle.c62_op.specs.declared.form.Reach.TheVariants.{Own, Crossing}
 use Rattle.c62_op.specs.declared.form.Range.{Range}
 use Rattle.c62_op.specs.declared.form.Pattern.{Pattern}
 use Rattle.c62_op.specs.declared.form.Pattern.TheVariants.{TwoSources, ConstantSource, SourceConstant, OneSource}
-use Rattle.c62_op.specs.declared.form.Pattern.TheVariants.{SourceField, ConstantAlone, Address, ToBlock, ToRegister}
+use Rattle.c62_op.specs.declared.form.Pattern.TheVariants.{SourceField, ConstantAlone, Address, FarAddress, ToBlock}
+use Rattle.c62_op.specs.declared.form.Pattern.TheVariants.{ToRegister}
 use Rattle.c62_op.specs.declared.form.Form.{Form}
 use Rattle.c62_op.specs.Table.{forms_of}
-use Rattle.c62_op.specs.Takes.{same_side, same_letter, may_lie, in_range, holds_constants, registers_fit, takes}
+use Rattle.c62_op.specs.Takes.{same_side, same_letter, may_lie, in_range, is_far_access, holds_constants, registers_fit}
+use Rattle.c62_op.specs.Takes.{takes}
 use Rattle.c62_op.specs.Shape.{crosses_to}
 use Rattle.c62_op.proofs.Registers.{same_letter-is}
 
@@ -45,6 +47,12 @@ lets_first_cross Sub = true
 lets_first_cross Shl = true
 lets_first_cross Shr = true
 lets_first_cross Shru = true
+lets_first_cross Ext = true
+lets_first_cross Extu = true
+lets_first_cross Set = true
+lets_first_cross Clr = true
+lets_first_cross Sshl = true
+lets_first_cross Ssub = true
 lets_first_cross _ = false
 
 -- from -32768 to 65535
@@ -65,8 +73,9 @@ keeps op letter (OneSource reach) = not (same_letter letter D) || is_own reach
 keeps op letter (SourceField range) = is_within range
 keeps op letter (ConstantAlone range) = is_within range
 keeps op letter (Address range) = same_letter letter D && is_within range
+keeps op letter (FarAddress range) = same_letter letter D && is_within range
 keeps op letter ToBlock = true
-keeps op letter ToRegister = true
+keeps op letter (ToRegister reach) = not (same_letter letter D)
 
 all_keep : (op : Op) → list_all (λ form. keeps op form.letter form.pattern) (forms_of op) ≡ true
 all_keep Add = refl
@@ -131,7 +140,7 @@ own_first op (TwoSources Crossing second) unit a b d holds lies kept fixed =
     absurd (both_ways (lets_first_cross op) fixed (and_parts (lets_first_cross op) _ kept).0)
 own_first op _ unit a b d holds lies kept fixed = absurd cc
 
--- the first source of three registers lies in the destination's file, but with SUB and the shifts
+-- the first source of three registers lies in the destination's file, but with SUB, SSUB, shifts and fields of bits
 pub first_in_file : (op : Op) (unit : FunctionalUnit) (a b d : Reg) → takes op (Three a b d) unit ≡ true
     → lets_first_cross op ≡ false → same_side a.side d.side ≡ true
 first_in_file op unit a b d taking fixed =
@@ -171,7 +180,9 @@ none_crosses op (SourceField range) unit (Field a k m d) holds lies kept is_d = 
 none_crosses op (ConstantAlone range) unit (Constant k d) holds lies kept is_d = refl
 none_crosses op (Address range) unit (Access reg base form offset) holds lies kept is_d = refl
 none_crosses op ToBlock unit (Block number) holds lies kept is_d = refl
-none_crosses op ToRegister unit (Register target) holds lies kept is_d = refl
+none_crosses op (FarAddress range) unit (Access reg base form offset) holds lies kept is_d = refl
+none_crosses op (ToRegister reach) unit (Register target) holds lies kept is_d =
+    absurd (let e : not true ≡ true = rw is_d at kept in cc)
 none_crosses op _ unit _ holds lies kept is_d = absurd cc
 
 -- nothing crosses to .D
@@ -198,6 +209,8 @@ access_letter : (op : Op) (pattern : Pattern) (letter : Letter) (reg base : Reg)
     → holds_constants pattern (Access reg base form offset) ≡ true → keeps op letter pattern ≡ true
     → same_letter letter D ≡ true
 access_letter op (Address range) letter reg base form offset holds kept =
+    (and_parts (same_letter letter D) (is_within range) kept).0
+access_letter op (FarAddress range) letter reg base form offset holds kept =
     (and_parts (same_letter letter D) (is_within range) kept).0
 access_letter op _ letter reg base form offset holds kept = absurd cc
 
@@ -252,6 +265,9 @@ all_narrow op (SourceField range) letter (Field a k m d) holds kept =
 all_narrow op (ConstantAlone range) letter (Constant k d) holds kept = narrow_one range k kept holds
 all_narrow op (Address range) letter (Access reg base form (ByConstant k)) holds kept = narrow_one range k
     (and_parts (same_letter letter D) (is_within range) kept).1 holds
+all_narrow op (FarAddress range) letter (Access reg base form (ByConstant k)) holds kept = narrow_one range k
+    (and_parts (same_letter letter D) (is_within range) kept).1
+    (and_parts (is_far_access base form (ByConstant k)) (in_range range k) holds).1
 all_narrow op pattern letter (Access reg base form (ByRegister offset)) holds kept = refl
 all_narrow op pattern letter (Three a b d) holds kept = refl
 all_narrow op pattern letter (Two a d) holds kept = refl

@@ -1,5 +1,6 @@
 -- What an operation's kind decides, and operations that are one with their sources exchanged.
-use Rattle.std.proofs.Common.{arith, refl, ◌≡◌, ℕ, ◌^◌, ◌<◌, ap, sym, ℤ, pos, ◌*ℤ◌, Bool, true, false, [], ◌∷◌}
+use Rattle.std.proofs.Common.{arith, refl, ◌≡◌, ℕ, ◌+◌, ◌*◌, ◌%◌, ◌^◌, ◌<◌, ap, sym, ℤ, pos, ◌*ℤ◌, Bool, true, false}
+use Rattle.std.proofs.Common.{[], ◌∷◌}
 use Rattle.std.specs.Prelude.{All, if◌then◌else◌}
 use Rattle.std.proofs.lemmas.Bool.{both_ways, cond_both, eq-eqb}
 use Rattle.std.proofs.lemmas.Int.{ints}
@@ -14,8 +15,8 @@ use Rattle.c62_op.specs.declared.operands.Operands.TheVariants.{Three, ConstantF
 use Rattle.c62_op.specs.declared.operands.Operands.TheVariants.{Constant, Access, Block, Register}
 use Rattle.c62_op.specs.Takes.{takes}
 use Rattle.c62_op.specs.Shape.{delay_of, is_load, changes_base, writes_of}
-use Rattle.c62_op.specs.Word.{word, sg_half, lo, hi, sum, difference}
-use Rattle.c62_op.specs.Laws.{HasDelayOfKind, MovesBase, Mirrors}
+use Rattle.c62_op.specs.Word.{word, sg_half, lo, hi, sum, difference, doubled}
+use Rattle.c62_op.specs.Laws.{HasDelayOfKind, MovesBase, Mirrors, TakesBack}
 use Rattle.c62_op.proofs.SideLemmas.{takes_on_side}
 
 pub delay-of-kind : (op : Op) → HasDelayOfKind op
@@ -92,4 +93,21 @@ mirrored a b = record {
   itself = ap (λ (t : Bool). if t then 1 else 0) (eq-eqb a a refl);
   halves = ap word (times-comm (sg_half (hi a)) (sg_half (lo b)));
   signs = ap word (times-comm (pos (lo a)) (sg_half (lo b)));
+  saturated_halves = ap doubled (times-comm (sg_half (hi a)) (sg_half (lo b)));
+  unsigned_halves = omega arith;
+  signs_of_high = ap word (times-comm (pos (hi a)) (sg_half (hi b)));
+  unsigned_high = ap word (times-comm (pos (hi a)) (sg_half (lo b)));
+  signed_high = ap word (times-comm (sg_half (hi a)) (pos (lo b)));
+}
+
+-- ---- sums for addresses, taken back
+
+back_by : (base offset : ℕ) → base < 2 ^ 32 → difference ((base + offset) % 2 ^ 32) (offset % 2 ^ 32) ≡ base
+back_by base offset low = omega arith
+
+pub taken_back : (base offset : ℕ) → base < 2 ^ 32 → offset < 2 ^ 32 → TakesBack base offset
+taken_back base offset low few = record {
+  bytes = up-and-down base offset low few;
+  halves = back_by base (offset * 2) low;
+  words = back_by base (offset * 4) low;
 }

@@ -9,3 +9,4 @@ pub mod SomewhereLemmas
 pub mod TakerLemmas
 pub mod SourceLemmas
 pub mod KindLemmas
+pub mod CoreLemmas

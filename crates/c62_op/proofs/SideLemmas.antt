@@ -14,7 +14,8 @@ use Rattle.c62_op.specs.declared.operands.Operands.TheVariants.{Constant, Access
 use Rattle.c62_op.specs.declared.form.Form.{Form}
 use Rattle.c62_op.specs.declared.form.Pattern.{Pattern}
 use Rattle.c62_op.specs.declared.form.Pattern.TheVariants.{TwoSources, ConstantSource, SourceConstant, OneSource}
-use Rattle.c62_op.specs.declared.form.Pattern.TheVariants.{SourceField, ConstantAlone, Address, ToBlock, ToRegister}
+use Rattle.c62_op.specs.declared.form.Pattern.TheVariants.{SourceField, ConstantAlone, Address, FarAddress, ToBlock}
+use Rattle.c62_op.specs.declared.form.Pattern.TheVariants.{ToRegister}
 use Rattle.c62_op.specs.Table.{forms_of}
 use Rattle.c62_op.specs.Takes.{same_side, same_letter, may_lie, offset_on, holds_constants, registers_fit, takes}
 use Rattle.c62_op.specs.Shape.{side_of}
@@ -45,8 +46,11 @@ well_on_side (ConstantAlone range) s (Constant k d) side h e = on_side d s side 
 well_on_side (Address range) s (Access reg base form offset) side h e = on_side base s side
     (and_parts (same_side base.side s) (offset_on s offset) h).0 e
 well_on_side ToBlock s (Block number) side h e = cc
-well_on_side ToRegister s (Register target) side h e = one_side s B
-    (and_parts (same_side s B) (same_side target.side B) h).0 ∙ cc
+well_on_side (FarAddress range) s (Access reg base form offset) side h e = on_side base s side
+    (and_parts (same_side base.side s) (offset_on s offset)
+    (and_parts (same_side base.side s && offset_on s offset) (same_side s B) h).0).0 e
+well_on_side (ToRegister reach) s (Register target) side h e = one_side s B
+    (and_parts (same_side s B) (may_lie reach s target) h).0 ∙ cc
 well_on_side _ s _ side h e = cc
 
 form_on_side : (forms : List Form) (operands : Operands) (unit : FunctionalUnit) (side : Side)

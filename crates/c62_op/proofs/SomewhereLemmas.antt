@@ -9,7 +9,9 @@ use Rattle.c62_op.specs.declared.operands.Op.{Op}
 use Rattle.c62_op.specs.declared.operands.Operands.{Operands}
 use Rattle.c62_op.specs.declared.form.Form.{Form}
 use Rattle.c62_op.specs.Table.{forms_of}
-use Rattle.c62_op.specs.Takes.{holds_constants, registers_fit, same_letter, takes, takes_by, takes_somewhere}
+use Rattle.c62_op.specs.declared.set.InstructionSet.{InstructionSet}
+use Rattle.c62_op.specs.Takes.{holds_constants, registers_fit, same_letter, takes_by, takes_in, takes_somewhere}
+use Rattle.c62_op.specs.Takes.{has_all_of}
 use Rattle.c62_op.specs.Units.{all_units}
 
 abbrev pub on_side : Bool → Bool → Side → Bool
@@ -44,16 +46,24 @@ any_or f g [] = refl
 any_or f g (x ∷ xs) = ap (λ (later : Bool). (f x || g x) || later) (any_or f g xs)
     ∙ regrouped (f x) (g x) (list_any f xs) (list_any g xs)
 
-by_forms : (operands : Operands) (forms : List Form)
-    → list_any (λ unit. list_any (λ form. takes_by form operands unit) forms) all_units ≡ list_any
-    (λ form. takes_somewhere form operands) forms
-by_forms operands [] = refl
-by_forms operands (form ∷ forms) =
-    any_or (takes_by form operands) (λ unit. list_any (λ f. takes_by f operands unit) forms) all_units
-    ∙ ap (λ (first : Bool). first || list_any (λ unit. list_any (λ f. takes_by f operands unit) forms) all_units)
-    (one_form form operands)
-    ∙ ap (λ (later : Bool). takes_somewhere form operands || later) (by_forms operands forms)
+if_in : (held : Bool) (form : Form) (operands : Operands)
+    → list_any (λ unit. held && takes_by form operands unit) all_units ≡ (held && takes_somewhere form operands)
+if_in true form operands = one_form form operands
+if_in false form operands = refl
 
-pub somewhere : (op : Op) (operands : Operands)
-    → list_any (takes op operands) all_units ≡ list_any (λ form. takes_somewhere form operands) (forms_of op)
-somewhere op operands = by_forms operands (forms_of op)
+by_forms : (held : Form → Bool) (operands : Operands) (forms : List Form)
+    → list_any (λ unit. list_any (λ form. held form && takes_by form operands unit) forms) all_units ≡ list_any
+    (λ form. held form && takes_somewhere form operands) forms
+by_forms held operands [] = refl
+by_forms held operands (form ∷ forms) =
+    any_or (λ unit. held form && takes_by form operands unit)
+    (λ unit. list_any (λ f. held f && takes_by f operands unit) forms) all_units
+    ∙ ap (λ (first : Bool). first
+    || list_any (λ unit. list_any (λ f. held f && takes_by f operands unit) forms) all_units)
+    (if_in (held form) form operands)
+    ∙ ap (λ (later : Bool). held form && takes_somewhere form operands || later) (by_forms held operands forms)
+
+pub somewhere : (set : InstructionSet) (op : Op) (operands : Operands)
+    → list_any (takes_in set op operands) all_units ≡ list_any
+    (λ form. has_all_of set form.set && takes_somewhere form operands) (forms_of op)
+somewhere set op operands = by_forms (λ form. has_all_of set form.set) operands (forms_of op)

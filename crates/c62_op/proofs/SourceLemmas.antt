@@ -1,8 +1,8 @@
 -- Where the sources of operands lie that a unit takes.
-use Rattle.std.proofs.Common.{◌≡◌, Bool, true, false, refl}
-use Rattle.std.specs.Prelude.{◌&&◌, ◌||◌, not}
-use Rattle.std.specs.List.{list_all}
-use Rattle.std.proofs.lemmas.Bool.{and_parts}
+use Rattle.std.proofs.Common.{◌≡◌, Bool, true, false, refl, List, [], ◌∷◌, inl, inr}
+use Rattle.std.specs.Prelude.{◌&&◌, ◌||◌, not, ℤ}
+use Rattle.std.specs.List.{list_all, list_any}
+use Rattle.std.proofs.lemmas.Bool.{and_parts, or_cases, or_parts}
 use Rattle.c62_op.specs.declared.register.Side.{Side}
 use Rattle.c62_op.specs.declared.register.Side.TheVariants.{A, B}
 use Rattle.c62_op.specs.declared.register.Reg.{Reg}
@@ -18,11 +18,16 @@ use Rattle.c62_op.specs.declared.form.Reach.{Reach}
 use Rattle.c62_op.specs.declared.form.Reach.TheVariants.{Own, Crossing}
 use Rattle.c62_op.specs.declared.form.Pattern.{Pattern}
 use Rattle.c62_op.specs.declared.form.Pattern.TheVariants.{TwoSources, ConstantSource, SourceConstant, OneSource}
-use Rattle.c62_op.specs.declared.form.Pattern.TheVariants.{SourceField, Address, ToRegister}
+use Rattle.c62_op.specs.declared.form.Pattern.TheVariants.{SourceField, Address, FarAddress, ToRegister}
 use Rattle.c62_op.specs.Table.{forms_of}
-use Rattle.c62_op.specs.Takes.{same_side, may_lie, offset_on, holds_constants, registers_fit, takes}
+use Rattle.c62_op.specs.Takes.{same_side, same_letter, may_lie, offset_on, holds_constants, registers_fit, takes}
+use Rattle.c62_op.specs.Takes.{takes_by, takes_in}
+use Rattle.c62_op.specs.Takes.{has_all_of, lets_target_cross}
+use Rattle.c62_op.specs.declared.form.Form.{Form}
+use Rattle.c62_op.specs.declared.set.InstructionSet.{InstructionSet}
 use Rattle.c62_op.specs.Shape.{side_of}
 use Rattle.c62_op.specs.Source.{first_source, second_source, lies_across, is_first_fixed, is_second_fixed}
+use Rattle.c62_op.specs.Source.{target_may_cross}
 use Rattle.c62_op.proofs.Registers.{same_side-is, same_side-refl}
 use Rattle.c62_op.proofs.FormLemmas.{IsTaken, one_form, is_own}
 
@@ -135,11 +140,28 @@ pub taken_sources : (op : Op) (operands : Operands) (unit : FunctionalUnit) → 
 taken_sources op operands unit taking = let t = taken op operands unit taking in keeps_sources op t.pattern unit.side
     operands t.holds t.lies t.kept
 
+field_source : (pattern : Pattern) (side : Side) (a d : Reg) (k m : ℤ)
+    → registers_fit pattern side (Field a k m d) ≡ true
+    → not (same_side a.side d.side) ≡ false
+field_source (SourceField range) side a d k m lies =
+    let on = and_parts (same_side a.side side) (same_side d.side side) lies in in_file Own side a d on.0 on.1 refl
+field_source _ side a d k m lies = absurd cc
+
+-- the source of a field that constants tell lies in the destination's file
+pub taken_field : (op : Op) (unit : FunctionalUnit) (a : Reg) (k m : ℤ) (d : Reg) → takes op (Field a k m d) unit ≡ true
+    → not (same_side a.side d.side) ≡ false
+taken_field op unit a k m d taking =
+    let t = taken op (Field a k m d) unit taking in field_source t.pattern unit.side a d k m t.lies
+
 offset_of : (pattern : Pattern) (side : Side) (reg base : Reg) (form : AddressForm) (offset : Offset)
     → registers_fit pattern side (Access reg base form offset) ≡ true
     → offset_on base.side offset ≡ true
 offset_of (Address range) side reg base form offset lies =
     let on = and_parts (same_side base.side side) (offset_on side offset) lies in
+    rw (same_side-is base.side side on.0) on.1
+offset_of (FarAddress range) side reg base form offset lies =
+    let on = and_parts (same_side base.side side) (offset_on side offset)
+    (and_parts (same_side base.side side && offset_on side offset) (same_side side B) lies).0 in
     rw (same_side-is base.side side on.0) on.1
 offset_of _ side reg base form offset lies = absurd cc
 
@@ -151,14 +173,37 @@ taken_offset op unit reg base form offset taking =
     let t = taken op (Access reg base form offset) unit taking in offset_of t.pattern unit.side reg base form offset
     t.lies
 
-target_of : (pattern : Pattern) (side : Side) (target : Reg) → registers_fit pattern side (Register target) ≡ true
-    → same_side target.side A ≡ false
-target_of ToRegister side target lies =
-    rw (same_side-is target.side B (and_parts (same_side side B) (same_side target.side B) lies).1) refl
-target_of _ side target lies = absurd cc
+-- ---- what a branch goes to
 
--- a branch's register lies in file B
-pub taken_target : (op : Op) (unit : FunctionalUnit) (target : Reg) → takes op (Register target) unit ≡ true
+-- a form that one test takes and another doesn't
+some_without : (p q : Form → Bool) (forms : List Form) → list_any p forms ≡ true → list_any q forms ≡ false
+    → (form : Form) × (p form ≡ true) × (q form ≡ false)
+some_without p q [] any none = absurd cc
+some_without p q (form ∷ forms) any none =
+    let left = or_parts (q form) (list_any q forms) none in
+    elim (or_cases (p form) (list_any p forms) any) [
+      | inl here ↦ (form, here, left.0)
+      | inr later ↦ some_without p q forms later left.1
+    ]
+
+target_of : (pattern : Pattern) (side : Side) (target : Reg) → registers_fit pattern side (Register target) ≡ true
+    → lets_target_cross pattern ≡ false → same_side target.side A ≡ false
+target_of (ToRegister Own) side target lies own =
+    let both = and_parts (same_side side B) (same_side target.side side) lies in
+    rw (same_side-is target.side side both.1, same_side-is side B both.0) refl
+target_of (ToRegister Crossing) side target lies own = absurd cc
+target_of _ side target lies own = absurd cc
+
+-- a branch's register lies in file B, where no form of the set lets it cross
+pub taken_target : (set : InstructionSet) (op : Op) (unit : FunctionalUnit) (target : Reg)
+    → takes_in set op (Register target) unit ≡ true → target_may_cross set op ≡ false
     → same_side target.side A ≡ false
-taken_target op unit target taking = let t = taken op (Register target) unit taking in target_of t.pattern unit.side
-    target t.lies
+taken_target set op unit target taking fixed =
+    let found = some_without (λ form. has_all_of set form.set && takes_by form (Register target) unit)
+    (λ form. has_all_of set form.set && lets_target_cross form.pattern) (forms_of op) taking fixed in
+    let form = found.0 in
+    let both = and_parts (has_all_of set form.set) (takes_by form (Register target) unit) found.1 in
+    let own : lets_target_cross form.pattern ≡ false = rw both.0 at found.2 in
+    target_of form.pattern unit.side target
+    (and_parts (holds_constants form.pattern (Register target) && same_letter form.letter unit.letter)
+    (registers_fit form.pattern unit.side (Register target)) both.1).1 own

@@ -14,7 +14,13 @@ use Rattle.c62_op.specs.declared.register.Letter.TheVariants.{L}
 use Rattle.c62_op.specs.declared.register.Unit.{Unit as FunctionalUnit}
 use Rattle.c62_op.specs.declared.operands.Operands.{Operands}
 use Rattle.c62_op.specs.declared.form.Form.{Form}
-use Rattle.c62_op.specs.Takes.{same_side, same_letter, holds_constants, registers_fit, takes_by}
+use Rattle.c62_op.specs.declared.register.Reg.{Reg}
+use Rattle.c62_op.specs.declared.operands.AddressForm.{AddressForm}
+use Rattle.c62_op.specs.declared.operands.Offset.{Offset}
+use Rattle.c62_op.specs.declared.operands.Offset.TheVariants.{Constant as ByConstant, Register as ByRegister}
+use Rattle.c62_op.specs.declared.form.Range.{Range}
+use Rattle.c62_op.specs.Takes.{same_side, same_letter, holds_constants, registers_fit, takes_by, in_range, is_plus}
+use Rattle.c62_op.specs.Takes.{is_far_access, far_offset_in_range, offset_on}
 use Rattle.c62_op.specs.Units.{index_on, index_of}
 use Rattle.c62_op.proofs.SomewhereLemmas.{on_side}
 
@@ -103,6 +109,28 @@ field_on false source A A = refl
 field_on false source A B = refl
 field_on false source B A = refl
 field_on false source B B = refl
+
+-- an access above B14 or B15 by a constant lies on side B
+by_parts : (on number form range : Bool)
+    → (on && number && form && range) ≡ (on && number && form && range && (on && true && true))
+by_parts true true true true = refl
+by_parts true true true false = refl
+by_parts true true false range = refl
+by_parts true false form range = refl
+by_parts false number form range = refl
+
+pub far_on : (range : Range) (base : Reg) (form : AddressForm) (offset : Offset)
+    → (is_far_access base form offset && far_offset_in_range range offset) ≡
+    (is_far_access base form offset && far_offset_in_range range offset
+    && (same_side base.side B && offset_on B offset && true))
+far_on range base form (ByConstant k) =
+    by_parts (same_side base.side B) (base.number == 14 || base.number == 15) (is_plus form) (in_range range k)
+far_on range base form (ByRegister offset) = refl
+
+pub never : (x y : Bool) → (x && (y && false)) ≡ false
+never true true = refl
+never true false = refl
+never false y = refl
 
 either_bit : (a b : ℕ) → a < 2 → b < 2 → (max a b == 1) ≡ ((a == 1) || (b == 1))
 either_bit a b low below = grind (arith, nat_tests)

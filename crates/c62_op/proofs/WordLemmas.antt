@@ -5,6 +5,7 @@ use Rattle.std.specs.Prelude.{nat_lt, if◌then◌else◌}
 use Rattle.std.specs.Int.{int_shr, cast_signed}
 use Rattle.std.proofs.lemmas.Nat.{pow-add, pow_pos, shr-shr}
 use Rattle.std.proofs.lemmas.Int.{ints}
+use Rattle.std.proofs.Math.Pow.{pow-lt}
 use Rattle.std.proofs.lemmas.Bool.Decides.{nat_tests}
 use Rattle.std.proofs.Math.Nat.{mul-mod_right, div-eq_of_lt}
 use Rattle.c62_op.specs.Word.{word, sg, shifted_right}
@@ -55,3 +56,9 @@ pub sign_left : (v k : ℕ) → 32 ≤ k → v < 2 ^ 32 → shifted_right v k �
 sign_left v k far f =
     let fits : FitsSigned w32 (sg v) = search rules in
     ap word (shr_far (sg v) k far fits) ∙ sign_of v (sg v) refl f
+
+-- one bit within the word
+pub small_power : (count : ℕ) → 1 * 2 ^ (count % 32) % 2 ^ 32 ≡ 2 ^ (count % 32)
+small_power count =
+    let low : 2 ^ (count % 32) < 2 ^ 32 = pow-lt {j = 32} (omega arith) in
+    omega arith

@@ -1,15 +1,20 @@
 -- Laws of the operations and of their table, as SPRU189 words them in the sections that are named. What each operation takes,
 -- and its result, is a row of the table, which the tests of c62_insn compare with the page.
-use Rattle.std.specs.Prelude.{◌≡◌, ℕ, ◌+◌, ◌-◌, ◌%◌, ◌^◌, ◌==◌, pos, neg_ℤ, not, ◌||◌, nat_lt, if◌then◌else◌, [], ◌∷◌}
+use Rattle.std.specs.Prelude.{◌≡◌, ℕ, ◌+◌, ◌-◌, ◌%◌, ◌^◌, ◌==◌, pos, neg_ℤ, not, ◌||◌, nat_lt, if◌then◌else◌, [], ◌∷◌, IsTrue}
 use Rattle.std.specs.List.{filter}
 use Rattle.std.specs.Str.{bytes_eq}
 use Rattle.c62_op.specs.declared.register.Letter.TheVariants.{M}
 use Rattle.c62_op.specs.declared.operands.Op.{Op}
 use Rattle.c62_op.specs.declared.operands.Op.TheVariants.{Cmpeq, Cmpgt, Cmplt, Cmpgtu, Cmpltu, Add2, Shl, Shr, Shru, Mpyus, Mpysu, Mpyhl, Mpylh}
+use Rattle.c62_op.specs.declared.operands.Op.TheVariants.{Smpyhl, Smpylh, Mpyhlu, Mpylhu, Mpyhus, Mpyhsu, Mpyhuls, Mpylshu, Mpyhslu, Mpyluhs, Addab, Addah, Addaw, Subab, Subah, Subaw}
 use Rattle.c62_op.specs.declared.operands.AddressForm.TheVariants.{PreIncrement, PreDecrement, PostIncrement, PostDecrement}
 use Rattle.c62_op.specs.declared.form.Range.{Range}
-use Rattle.c62_op.specs.Table.{all_operations, scst5, ucst5, scst16, ucst16, mnemonic_of}
-use Rattle.c62_op.specs.Takes.{has_letter}
+use Rattle.c62_op.specs.Table.{all_operations, scst5, ucst4, ucst5, ucst15, scst16, ucst16, mnemonic_of}
+use Rattle.c62_op.specs.declared.register.Unit.{Unit as FunctionalUnit}
+use Rattle.c62_op.specs.declared.operands.Operands.{Operands}
+use Rattle.c62_op.specs.declared.set.InstructionSet.{InstructionSet}
+use Rattle.c62_op.specs.Takes.{has_letter, takes, takes_in}
+use Rattle.c62_op.specs.Units.{is_taken_in}
 use Rattle.c62_op.specs.Shape.{delay_of, is_load, is_branch}
 use Rattle.c62_op.specs.Word.{lo, hi, sum, difference}
 use Rattle.c62_op.specs.Meaning.{result_of, moved, address_of}
@@ -41,6 +46,17 @@ pub record Mirrors (a b : ℕ) : Type 0 where
   pub itself : result_of Cmpeq a a ≡ 1
   pub halves : result_of Mpyhl a b ≡ result_of Mpylh b a
   pub signs : result_of Mpyus a b ≡ result_of Mpysu b a
+  pub saturated_halves : result_of Smpyhl a b ≡ result_of Smpylh b a
+  pub unsigned_halves : result_of Mpyhlu a b ≡ result_of Mpylhu b a
+  pub signs_of_high : result_of Mpyhus a b ≡ result_of Mpyhsu b a
+  pub unsigned_high : result_of Mpyhuls a b ≡ result_of Mpylshu b a
+  pub signed_high : result_of Mpyhslu a b ≡ result_of Mpyluhs b a
+
+-- SUBAB, SUBAH and SUBAW take back what ADDAB, ADDAH and ADDAW added ("SUBAB")
+pub record TakesBack (base offset : ℕ) : Type 0 where
+  pub bytes : result_of Subab (result_of Addab base offset) offset ≡ base
+  pub halves : result_of Subah (result_of Addah base offset) offset ≡ base
+  pub words : result_of Subaw (result_of Addaw base offset) offset ≡ base
 
 -- the numbers of so many bits: in two's complement, or without a sign
 abbrev pub signed_range : ℕ → Range
@@ -49,9 +65,11 @@ signed_range bits = record { low = neg_ℤ (pos (2 ^ (bits - 1))); high = pos (2
 abbrev pub unsigned_range : ℕ → Range
 unsigned_range bits = record { low = pos 0; high = pos (2 ^ bits - 1) }
 
--- the constants that the manual names scst5, ucst5, scst16 and ucst16 ("Individual Instruction Descriptions")
+-- the constants that the manual names scst5, ucst4, ucst5, ucst15, scst16 and ucst16 ("Individual Instruction Descriptions")
 abbrev pub HasRangesOfBits : Type 0
-HasRangesOfBits = (scst5 ≡ signed_range 5) × (ucst5 ≡ unsigned_range 5) × (scst16 ≡ signed_range 16) × (ucst16 ≡ unsigned_range 16)
+HasRangesOfBits =
+    (scst5 ≡ signed_range 5) × (ucst4 ≡ unsigned_range 4) × (ucst5 ≡ unsigned_range 5) × (ucst15 ≡ unsigned_range 15)
+    × (scst16 ≡ signed_range 16) × (ucst16 ≡ unsigned_range 16)
 
 -- each half of the sum is that of the halves, whatever the other halves are ("ADD2")
 abbrev pub AddsHalves : ℕ → ℕ → Type 0
@@ -62,3 +80,8 @@ pub record ShiftsOut (v count : ℕ) : Type 0 where
   pub left : result_of Shl v count ≡ 0
   pub right : result_of Shr v count ≡ (if nat_lt v (2 ^ 31) then 0 else 2 ^ 32 - 1)
   pub unsigned : result_of Shru v count ≡ 0
+
+-- A unit that takes operands takes them by a form of each set by which some unit does: nothing that the core has runs on another unit
+-- where the full set is asked for ("Mapping Between Instructions and Functional Units").
+abbrev pub StaysInSet : InstructionSet → Op → Operands → FunctionalUnit → Type 0
+StaysInSet isa op operands unit = IsTrue (is_taken_in isa op operands) → IsTrue (takes op operands unit) → IsTrue (takes_in isa op operands unit)

@@ -1,16 +1,29 @@
 -- What each operation computes, of the words of its operands (docs/MACHINE.md, "Instruction table" and "Addresses"; SPRU189,
 -- "Individual Instruction Descriptions").
-use Rattle.std.specs.Prelude.{ℕ, ◌+◌, ◌-◌, ◌*◌, ◌/◌, ◌%◌, ◌^◌, min, pos, ◌*ℤ◌, int_lt, unsigned_abs, bit_and, bit_or, bit_xor, nat_lt, ◌==◌, if◌then◌else◌, List, slice_index}
+use Rattle.std.specs.Prelude.{ℕ, ◌+◌, ◌-◌, ◌*◌, ◌/◌, ◌%◌, ◌^◌, min, pos, ◌+ℤ◌, ◌-ℤ◌, ◌*ℤ◌, int_lt, unsigned_abs, bit_and, bit_or, bit_xor, nat_lt, ◌==◌, if◌then◌else◌, List, slice_index}
 use Rattle.std.specs.Int.{cast_signed, w8}
 use Rattle.c62_op.specs.declared.operands.Op.{Op}
 use Rattle.c62_op.specs.declared.operands.Op.TheVariants.{Add, Sub, And, Or, Xor, Abs, Add2, Sub2, Cmpeq, Cmpgt, Cmplt, Cmpgtu, Cmpltu, Shl, Shr, Shru, Extu, Mvk, Mvklh, Addk, Mpy, Mpyu, Mpyus, Mpysu, Mpyh, Mpyhu, Mpyhl, Mpylh, Addab, Addah, Addaw, Ldb, Ldh}
+use Rattle.c62_op.specs.declared.operands.Op.TheVariants.{Ext, Lmbd, Norm, Subc, Sadd, Ssub, Set, Clr, Sshl, Smpy, Smpyh, Smpyhl, Smpylh, Mpylhu, Mpyhlu, Mpyhus, Mpyhsu, Mpyhuls, Mpyhslu, Mpyluhs, Mpylshu, Subab, Subah, Subaw}
 use Rattle.c62_op.specs.declared.operands.AddressForm.{AddressForm}
 use Rattle.c62_op.specs.declared.operands.AddressForm.TheVariants.{Plus, PreIncrement, PostIncrement, PostDecrement}
 use Rattle.c62_op.specs.declared.operands.Offset.{Offset}
 use Rattle.c62_op.specs.declared.operands.Offset.TheVariants.{Constant as ByConstant, Register as ByRegister}
 use Rattle.c62_op.specs.Word.{word, sg, sg_half, lo, hi, sum, difference, shifted_left, shifted_right, half_sums, half_differences}
+use Rattle.c62_op.specs.Word.{saturated, doubled, ones_from, complement, leftmost, redundant_signs, division_step}
 use Rattle.c62_op.specs.Table.{row_of, bytes_of}
 use Rattle.c62_op.specs.Shape.{is_store}
+
+-- the result of EXT and EXTU: left by k, then right by m, with the sign for EXT; of SET and CLR: the bits from k to m
+abbrev pub field_of : Op → ℕ → ℕ → ℕ → ℕ
+field_of Extu a k m = shifted_left a k / 2 ^ m
+field_of Set a k m = bit_or a (ones_from k m)
+field_of Clr a k m = bit_and a (complement (ones_from k m))
+field_of _ a k m = shifted_right (shifted_left a k) m
+
+-- the same where a register tells both: k is in its bits 9 to 5, and m in its bits 4 to 0
+abbrev pub field_by : Op → ℕ → ℕ → ℕ
+field_by op a told = field_of op a (told / 2 ^ 5 % 2 ^ 5) (told % 2 ^ 5)
 
 -- the result of an operation on the words of its operands, constants too, in the order of the table
 abbrev pub result_of : Op → ℕ → ℕ → ℕ
@@ -44,12 +57,32 @@ result_of Mpylh a b = word (sg_half (lo a) *ℤ sg_half (hi b))
 result_of Addab a b = sum a b
 result_of Addah a b = (a + b * 2) % 2 ^ 32
 result_of Addaw a b = (a + b * 4) % 2 ^ 32
+result_of Ext a told = field_by Ext a told
+result_of Extu a told = field_by Extu a told
+result_of Set a told = field_by Set a told
+result_of Clr a told = field_by Clr a told
+result_of Lmbd a b = leftmost a b
+result_of Norm a _ = redundant_signs a
+result_of Subc a b = division_step a b
+result_of Sadd a b = saturated (sg a +ℤ sg b)
+result_of Ssub a b = saturated (sg a -ℤ sg b)
+result_of Sshl a count = saturated (sg a *ℤ pos (2 ^ (count % 32)))
+result_of Smpy a b = doubled (sg_half (lo a) *ℤ sg_half (lo b))
+result_of Smpyh a b = doubled (sg_half (hi a) *ℤ sg_half (hi b))
+result_of Smpyhl a b = doubled (sg_half (hi a) *ℤ sg_half (lo b))
+result_of Smpylh a b = doubled (sg_half (lo a) *ℤ sg_half (hi b))
+result_of Mpylhu a b = lo a * hi b
+result_of Mpyhlu a b = hi a * lo b
+result_of Mpyhus a b = word (pos (hi a) *ℤ sg_half (hi b))
+result_of Mpyhsu a b = word (sg_half (hi a) *ℤ pos (hi b))
+result_of Mpyhuls a b = word (pos (hi a) *ℤ sg_half (lo b))
+result_of Mpyhslu a b = word (sg_half (hi a) *ℤ pos (lo b))
+result_of Mpyluhs a b = word (pos (lo a) *ℤ sg_half (hi b))
+result_of Mpylshu a b = word (sg_half (lo a) *ℤ pos (hi b))
+result_of Subab a b = difference a b
+result_of Subah a b = difference a (b * 2 % 2 ^ 32)
+result_of Subaw a b = difference a (b * 4 % 2 ^ 32)
 result_of _ _ _ = 0
-
--- the result of EXT and EXTU: left by k, then right by m, with the sign for EXT
-abbrev pub field_of : Op → ℕ → ℕ → ℕ → ℕ
-field_of Extu a k m = shifted_left a k / 2 ^ m
-field_of _ a k m = shifted_right (shifted_left a k) m
 
 -- the bytes of an access
 abbrev pub size_of : Op → ℕ

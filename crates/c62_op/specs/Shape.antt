@@ -96,4 +96,5 @@ crosses_to side (ConstantFirst _ a _) = not (same_side a.side side)
 crosses_to side (ConstantSecond a _ _) = not (same_side a.side side)
 crosses_to side (Two a _) = not (same_side a.side side)
 crosses_to side (Field a _ _ _) = not (same_side a.side side)
+crosses_to side (Register target) = not (same_side target.side side)
 crosses_to side _ = false

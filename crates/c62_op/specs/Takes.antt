@@ -9,6 +9,8 @@ use Rattle.c62_op.specs.declared.register.Letter.{Letter}
 use Rattle.c62_op.specs.declared.register.Letter.TheVariants.{L, S, M, D}
 use Rattle.c62_op.specs.declared.register.Unit.{Unit as FunctionalUnit}
 use Rattle.c62_op.specs.declared.operands.Op.{Op}
+use Rattle.c62_op.specs.declared.operands.AddressForm.{AddressForm}
+use Rattle.c62_op.specs.declared.operands.AddressForm.TheVariants.{Plus}
 use Rattle.c62_op.specs.declared.operands.Offset.{Offset}
 use Rattle.c62_op.specs.declared.operands.Offset.TheVariants.{Constant as ByConstant, Register as ByRegister}
 use Rattle.c62_op.specs.declared.operands.Operands.{Operands}
@@ -17,8 +19,10 @@ use Rattle.c62_op.specs.declared.form.Reach.{Reach}
 use Rattle.c62_op.specs.declared.form.Reach.TheVariants.{Own, Crossing}
 use Rattle.c62_op.specs.declared.form.Range.{Range}
 use Rattle.c62_op.specs.declared.form.Pattern.{Pattern}
-use Rattle.c62_op.specs.declared.form.Pattern.TheVariants.{TwoSources, ConstantSource, SourceConstant, OneSource, SourceField, ConstantAlone, Address, ToBlock, ToRegister}
+use Rattle.c62_op.specs.declared.form.Pattern.TheVariants.{TwoSources, ConstantSource, SourceConstant, OneSource, SourceField, ConstantAlone, Address, FarAddress, ToBlock, ToRegister}
 use Rattle.c62_op.specs.declared.form.Form.{Form}
+use Rattle.c62_op.specs.declared.set.InstructionSet.{InstructionSet}
+use Rattle.c62_op.specs.declared.set.InstructionSet.TheVariants.{Core, Full}
 use Rattle.c62_op.specs.Table.{forms_of}
 
 abbrev pub same_side : Side → Side → Bool
@@ -48,6 +52,18 @@ may_lie Crossing side reg = true
 abbrev pub in_range : Range → ℤ → Bool
 in_range range k = int_le range.low k && int_le k range.high
 
+-- `*+B14[k]` and `*+B15[k]`, whose constant may have 15 bits (SPRU189, "LDB/LDH/LDW (15-Bit Constant Offset)")
+abbrev pub is_far_base : Reg → Bool
+is_far_base base = same_side base.side B && (base.number == 14 || base.number == 15)
+
+abbrev pub is_plus : AddressForm → Bool
+is_plus Plus = true
+is_plus _ = false
+
+abbrev pub is_far_access : Reg → AddressForm → Offset → Bool
+is_far_access base form (ByConstant k) = is_far_base base && is_plus form
+is_far_access base form (ByRegister _) = false
+
 -- whether the operands are of the pattern's kind and number
 abbrev pub same_kind : Pattern → Operands → Bool
 same_kind (TwoSources _ _) (Three _ _ _) = true
@@ -57,13 +73,18 @@ same_kind (OneSource _) (Two _ _) = true
 same_kind (SourceField _) (Field _ _ _ _) = true
 same_kind (ConstantAlone _) (Constant _ _) = true
 same_kind (Address _) (Access _ _ _ _) = true
+same_kind (FarAddress _) (Access _ base form offset) = is_far_access base form offset
 same_kind ToBlock (Block _) = true
-same_kind ToRegister (Register _) = true
+same_kind (ToRegister _) (Register _) = true
 same_kind _ _ = false
 
 abbrev pub offset_in_range : Range → Offset → Bool
 offset_in_range range (ByConstant k) = in_range range k
 offset_in_range range (ByRegister _) = true
+
+abbrev pub far_offset_in_range : Range → Offset → Bool
+far_offset_in_range range (ByConstant k) = in_range range k
+far_offset_in_range range (ByRegister _) = false
 
 -- whether besides the constants lie in the pattern's ranges
 abbrev pub holds_constants : Pattern → Operands → Bool
@@ -72,6 +93,7 @@ holds_constants (SourceConstant _ range) (ConstantSecond _ k _) = in_range range
 holds_constants (SourceField range) (Field _ k m _) = in_range range k && in_range range m
 holds_constants (ConstantAlone range) (Constant k _) = in_range range k
 holds_constants (Address range) (Access _ _ _ offset) = offset_in_range range offset
+holds_constants (FarAddress range) (Access _ base form offset) = is_far_access base form offset && far_offset_in_range range offset
 holds_constants pattern operands = same_kind pattern operands
 
 -- an offset register lies on the side of its unit ("Memory, Load, and Store Paths")
@@ -88,8 +110,9 @@ registers_fit (OneSource reach) side (Two a d) = may_lie reach side a && same_si
 registers_fit (SourceField _) side (Field a _ _ d) = same_side a.side side && same_side d.side side
 registers_fit (ConstantAlone _) side (Constant _ d) = same_side d.side side
 registers_fit (Address _) side (Access _ base _ offset) = same_side base.side side && offset_on side offset
+registers_fit (FarAddress _) side (Access _ base _ offset) = same_side base.side side && offset_on side offset && same_side side B
 registers_fit ToBlock side (Block _) = true
-registers_fit ToRegister side (Register target) = same_side side B && same_side target.side B
+registers_fit (ToRegister reach) side (Register target) = same_side side B && may_lie reach side target
 registers_fit _ _ _ = false
 
 -- whether this unit takes the operands by one form, and by any
@@ -104,6 +127,36 @@ takes_somewhere form operands =
 
 abbrev pub takes : Op → Operands → FunctionalUnit → Bool
 takes op operands unit = list_any (λ form. takes_by form operands unit) (forms_of op)
+
+-- whether a register that a branch goes to may come over the cross path
+abbrev pub lets_target_cross : Pattern → Bool
+lets_target_cross (ToRegister Crossing) = true
+lets_target_cross _ = false
+
+-- ---- the two sets of instructions
+
+-- whether what the other set has belongs to this one: what the core has belongs to both
+abbrev pub has_all_of : InstructionSet → InstructionSet → Bool
+has_all_of Full _ = true
+has_all_of Core Core = true
+has_all_of Core Full = false
+
+-- whether some form of the operation belongs to the set
+abbrev pub is_in : InstructionSet → Op → Bool
+is_in set op = list_any (λ form. has_all_of set form.set) (forms_of op)
+
+-- whether this unit takes the operands by a form of the set
+abbrev pub takes_in : InstructionSet → Op → Operands → FunctionalUnit → Bool
+takes_in set op operands unit = list_any (λ form. has_all_of set form.set && takes_by form operands unit) (forms_of op)
+
+-- whether some form of the set has operands of this kind, and whether besides it takes the constants
+abbrev pub has_kind_in : InstructionSet → Op → Operands → Bool
+has_kind_in set op operands = list_any (λ form. has_all_of set form.set && same_kind form.pattern operands) (forms_of op)
+
+abbrev pub in_some_range_in : InstructionSet → Op → Operands → Bool
+in_some_range_in set op operands = list_any (λ form. has_all_of set form.set && holds_constants form.pattern operands) (forms_of op)
+
+-- ---- units
 
 -- the written unit, where one is written, and else any
 abbrev pub is_written : Option FunctionalUnit → FunctionalUnit → Bool

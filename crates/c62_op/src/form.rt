@@ -1,7 +1,8 @@
 //! The forms of operations, each a unit's letter and a pattern of operands, and what they take.
 
-use crate::operands::{Offset, Op, Operands};
+use crate::operands::{AddressForm, Offset, Op, Operands};
 use crate::register::{Letter, Reg, Side, Unit};
+use crate::set::InstructionSet;
 use crate::table::forms;
 
 /// Which registers a source may be.
@@ -37,10 +38,12 @@ pub(crate) enum Pattern {
     ConstantAlone(Range),
     /// An access, whose base and offset register lie on the unit's side.
     Address(Range),
+    /// An access above B14 or B15, by a constant, on the unit of side B.
+    FarAddress(Range),
     /// A block.
     ToBlock,
-    /// A register of file B, on the unit of side B.
-    ToRegister,
+    /// A register, on the unit of side B.
+    ToRegister(Reach),
 }
 
 /// The sides whose units take operands by a form.
@@ -53,6 +56,7 @@ pub(crate) struct Sides {
 /// One form of an operation.
 #[derive(Clone, Copy, PartialEq, Eq, Debug)]
 pub(crate) struct Form {
+    pub set: InstructionSet,
     pub letter: Letter,
     pub pattern: Pattern,
 }
@@ -75,13 +79,23 @@ impl Reach {
 
 impl Range {
     ghost use Rattle.std.specs.Prelude.{◌&&◌};
-    ghost use Rattle.c62_op.specs.Takes.{in_range, same_side};
+    ghost use Rattle.c62_op.specs.Takes.{far_offset_in_range, in_range, is_far_access, same_side};
 
     /// Whether `constant` is in the range.
     pub(crate) fn contains(self, constant: i64) -> bool
         ensures { result ≡ in_range self constant }
     {
         self.low <= constant && constant <= self.high
+    }
+
+    /// Whether the access is above B14 or B15 by a constant of the range.
+    fn holds_far(self, base: Reg, form: AddressForm, offset: Offset) -> bool
+        ensures { result ≡ (is_far_access base form offset && far_offset_in_range self offset) }
+    {
+        match offset {
+            Offset::Constant(k) => base.is_far_base() && form.is_plus() && self.contains(k),
+            Offset::Register(_) => false,
+        }
     }
 
     /// Whether both constants are in the range, and the source lies in the destination's file.
@@ -94,7 +108,7 @@ impl Range {
 
 impl Offset {
     ghost use Rattle.std.specs.Prelude.{◌&&◌};
-    ghost use Rattle.c62_op.specs.Takes.{offset_in_range, offset_on};
+    ghost use Rattle.c62_op.specs.Takes.{is_far_access, offset_in_range, offset_on};
 
     /// Whether the offset is a constant, or a register of `side`.
     pub fn lies_on(self, side: Side) -> bool
@@ -103,6 +117,16 @@ impl Offset {
         match self {
             Offset::Constant(_) => true,
             Offset::Register(reg) => reg.side == side,
+        }
+    }
+
+    /// Whether such an access is above B14 or B15 by a constant.
+    fn is_far(self, base: Reg, form: AddressForm) -> bool
+        ensures { result ≡ is_far_access base form self }
+    {
+        match self {
+            Offset::Constant(_) => base.is_far_base() && form.is_plus(),
+            Offset::Register(_) => false,
         }
     }
 
@@ -150,7 +174,7 @@ impl Sides {
 impl Pattern {
     ghost use Rattle.std.specs.Prelude.{◌&&◌};
     ghost use Rattle.c62_op.specs.declared.register.Side.TheVariants.{A as OnA, B as OnB};
-    ghost use Rattle.c62_op.specs.Takes.{same_kind, holds_constants, registers_fit};
+    ghost use Rattle.c62_op.specs.Takes.{same_kind, holds_constants, lets_target_cross, registers_fit};
 
     /// Whether `operands` are of this kind and number.
     pub(crate) fn has_kind(self, operands: Operands) -> bool
@@ -164,10 +188,26 @@ impl Pattern {
             (Pattern::SourceField(_), Operands::Field { .. }) => true,
             (Pattern::ConstantAlone(_), Operands::Constant(_, _)) => true,
             (Pattern::Address(_), Operands::Access { .. }) => true,
+            (
+                Pattern::FarAddress(_),
+                Operands::Access {
+                    base,
+                    form,
+                    offset,
+                    ..
+                },
+            ) => offset.is_far(base, form),
             (Pattern::ToBlock, Operands::Block(_)) => true,
-            (Pattern::ToRegister, Operands::Register(_)) => true,
+            (Pattern::ToRegister(_), Operands::Register(_)) => true,
             _ => false,
         }
+    }
+
+    /// Whether the register that a branch goes to may come over the cross path.
+    pub(crate) fn lets_target_cross(self) -> bool
+        ensures { result ≡ lets_target_cross self }
+    {
+        matches!(self, Pattern::ToRegister(Reach::Crossing))
     }
 
     /// Whether besides the constants lie in the ranges.
@@ -196,13 +236,22 @@ impl Pattern {
                     ..
                 },
             ) => range.contains(k),
+            (
+                Pattern::FarAddress(range),
+                Operands::Access {
+                    base,
+                    form,
+                    offset,
+                    ..
+                },
+            ) => range.holds_far(base, form, offset),
             _ => self.has_kind(operands),
         }
     }
 
     /// The sides on which constants and registers are as the pattern wants them.
     #[inline(always)]
-    #[tactic(auto, using(crate::proofs::TakerLemmas::field_on))]
+    #[tactic(auto, using(crate::proofs::TakerLemmas::field_on, crate::proofs::TakerLemmas::far_on, crate::proofs::TakerLemmas::never))]
     pub(crate) fn sides(self, operands: Operands) -> Sides
         ensures a { result.a ≡ (holds_constants self operands && registers_fit self OnA operands) }
         ensures b { result.b ≡ (holds_constants self operands && registers_fit self OnB operands) }
@@ -235,9 +284,18 @@ impl Pattern {
             (Pattern::Address(range), Operands::Access { base, offset, .. }) => {
                 Sides::only(base.side, offset.fits(range, base.side))
             }
+            (
+                Pattern::FarAddress(range),
+                Operands::Access {
+                    base,
+                    form,
+                    offset,
+                    ..
+                },
+            ) => Sides::only(Side::B, range.holds_far(base, form, offset)),
             (Pattern::ToBlock, Operands::Block(_)) => Sides { a: true, b: true },
-            (Pattern::ToRegister, Operands::Register(target)) => {
-                Sides::only(Side::B, target.side == Side::B)
+            (Pattern::ToRegister(reach), Operands::Register(target)) => {
+                Sides::only(Side::B, reach.admits(Side::B, target))
             }
             _ => Sides { a: false, b: false },
         }
@@ -289,7 +347,7 @@ ghost use Rattle.std.specs.Prelude.{◌==◌};
 ghost use Rattle.std.specs.Int.{bit_at};
 ghost use Rattle.c62_op.specs.declared.register.Unit.{Unit as FunctionalUnit};
 ghost use Rattle.c62_op.specs.Units.{index_of};
-ghost use Rattle.c62_op.specs.Takes.{takes};
+ghost use Rattle.c62_op.specs.Takes.{takes, takes_in};
 
 /// Whether `unit` takes these operands of `op` (SPRU189, "Mapping Between Instructions and Functional
 /// Units").
@@ -297,6 +355,14 @@ pub fn unit_takes(op: Op, operands: Operands, unit: Unit) -> bool
     ensures { result ≡ takes op operands unit }
 {
     forms(op).iter().any(|form| form.is_taken(operands, unit))
+}
+
+/// Whether `unit` takes them by a form of the set.
+#[inline(always)]
+pub fn unit_takes_in(set: InstructionSet, op: Op, operands: Operands, unit: Unit) -> bool
+    ensures { result ≡ takes_in set op operands unit }
+{
+    forms(op).iter().any(|form| set.has_all_of(form.set) && form.is_taken(operands, unit))
 }
 
 /// All units that take these operands of `op`, found by one look at each of its forms: of each unit the bit of

@@ -4,7 +4,10 @@
 ghost use Rattle.std.specs.Prelude.{◌≡◌, ℕ, ◌<◌, ◌≤◌, ◌%◌, ◌^◌};
 ghost use Rattle.c62_op.specs.declared.operands.Op.{Op as Operation};
 ghost use Rattle.c62_op.specs.Table.{all_operations};
-ghost use Rattle.c62_op.specs.Laws.{StandsOnce, HasDelayOfKind, MovesBase, Mirrors, HasRangesOfBits, AddsHalves, ShiftsOut};
+ghost use Rattle.c62_op.specs.Laws.{StandsOnce, HasDelayOfKind, MovesBase, Mirrors, TakesBack, HasRangesOfBits, AddsHalves, ShiftsOut, StaysInSet};
+ghost use Rattle.c62_op.specs.declared.register.Unit.{Unit as FunctionalUnit};
+ghost use Rattle.c62_op.specs.declared.operands.Operands.{Operands as OperandList};
+ghost use Rattle.c62_op.specs.declared.set.InstructionSet.{InstructionSet};
 
 use crate::operands::Op;
 
@@ -25,12 +28,19 @@ pub fn moves_base()
     ensures { (base distance : ℕ) → base < 2 ^ 32 → distance < 2 ^ 32 → MovesBase base distance }
 {}
 
-/// CMPGT and CMPLT, CMPGTU and CMPLTU, MPYHL and MPYLH, MPYUS and MPYSU are one operation each, with the sources exchanged.
+/// CMPGT and CMPLT, CMPGTU and CMPLTU, MPYHL and MPYLH, MPYUS and MPYSU are one operation each, with the sources exchanged, and so
+/// are SMPYHL and SMPYLH, MPYHLU and MPYLHU, MPYHUS and MPYHSU, MPYHULS and MPYLSHU, MPYHSLU and MPYLUHS.
 pub fn mirrors()
     ensures { (a b : ℕ) → Mirrors a b }
 {}
 
-/// The ranges of constants are the numbers of 5 and of 16 bits, signed and unsigned.
+/// SUBAB, SUBAH and SUBAW take back what ADDAB, ADDAH and ADDAW added.
+#[tactic(auto, using(crate::proofs::KindLemmas::taken_back))]
+pub fn takes_back()
+    ensures { (base offset : ℕ) → base < 2 ^ 32 → offset < 2 ^ 32 → TakesBack base offset }
+{}
+
+/// The ranges of constants are the numbers of 4, 5, 15 and 16 bits, signed and unsigned.
 pub fn has_ranges_of_bits()
     ensures { HasRangesOfBits }
 {}
@@ -43,4 +53,11 @@ pub fn adds_halves()
 /// SHL and SHRU by 32 or more give 0, SHR the sign in all bits.
 pub fn shifts_out()
     ensures { (v count : ℕ) → v < 2 ^ 32 → 32 ≤ count % 2 ^ 6 → ShiftsOut v count }
+{}
+
+/// A unit that takes operands takes them by a form of each set by which some unit does: no instruction of the core runs on another
+/// unit where the full set is asked for.
+#[tactic(auto, using(crate::proofs::CoreLemmas::core_stays))]
+pub fn stays_in_set()
+    ensures { (isa : InstructionSet) (op : Operation) (operands : OperandList) (unit : FunctionalUnit) → StaysInSet isa op operands unit }
 {}

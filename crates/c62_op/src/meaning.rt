@@ -1,15 +1,16 @@
 //! What each operation computes.
 
 ghost use Rattle.std.specs.Prelude.{◌≡◌, ◌<◌, ◌+◌, ◌≤◌, length};
-ghost use Rattle.c62_op.specs.Meaning.{result_of, field_of, low_bytes_of, size_of, offset_value, moved, address_of, base_index, base_after, loaded_of};
+ghost use Rattle.c62_op.specs.Meaning.{result_of, field_of, field_by, low_bytes_of, size_of, offset_value, moved, address_of, base_index, base_after, loaded_of};
 ghost use Rattle.c62_op.specs.Shape.{offset_reads};
 
 use crate::operands::{AddressForm, Offset, Op};
 use crate::table::{Memory, row_of};
 use crate::word::{
-    absolute, add_halves, high, joined, low, multiply, multiply_mixed, multiply_mixed_first,
-    multiply_unsigned, shift_left, shift_right, shift_right_unsigned, subtract_halves, word_of,
-    word_of_signed,
+    absolute, add_halves, add_saturated, complement, division_step, high, joined, leftmost, low,
+    multiply, multiply_mixed, multiply_mixed_first, multiply_saturated, multiply_unsigned,
+    ones_from, redundant_signs, shift_left, shift_left_saturated, shift_right,
+    shift_right_unsigned, subtract_halves, subtract_saturated, word_of, word_of_signed,
 };
 
 impl Op {
@@ -49,20 +50,50 @@ impl Op {
             Op::Mpylh => multiply(low(a), high(b)),
             Op::Addah => a.wrapping_add(b.wrapping_mul(2)),
             Op::Addaw => a.wrapping_add(b.wrapping_mul(4)),
+            Op::Ext | Op::Extu | Op::Set | Op::Clr => self.field_by(a, b),
+            Op::Lmbd => leftmost(a, b),
+            Op::Norm => redundant_signs(a),
+            Op::Subc => division_step(a, b),
+            Op::Sadd => add_saturated(a, b),
+            Op::Ssub => subtract_saturated(a, b),
+            Op::Sshl => shift_left_saturated(a, b),
+            Op::Smpy => multiply_saturated(low(a), low(b)),
+            Op::Smpyh => multiply_saturated(high(a), high(b)),
+            Op::Smpyhl => multiply_saturated(high(a), low(b)),
+            Op::Smpylh => multiply_saturated(low(a), high(b)),
+            Op::Mpylhu => multiply_unsigned(low(a), high(b)),
+            Op::Mpyhlu => multiply_unsigned(high(a), low(b)),
+            Op::Mpyhus => multiply_mixed(high(a), high(b)),
+            Op::Mpyhsu => multiply_mixed_first(high(a), high(b)),
+            Op::Mpyhuls => multiply_mixed(high(a), low(b)),
+            Op::Mpyhslu => multiply_mixed_first(high(a), low(b)),
+            Op::Mpyluhs => multiply_mixed(low(a), high(b)),
+            Op::Mpylshu => multiply_mixed_first(low(a), high(b)),
+            Op::Subab => a.wrapping_sub(b),
+            Op::Subah => a.wrapping_sub(b.wrapping_mul(2)),
+            Op::Subaw => a.wrapping_sub(b.wrapping_mul(4)),
             _ => 0,
         }
     }
 
-    /// The result of EXTU: `a` shifted left by `k` and then right by `m`. Of other operations that of EXT,
-    /// which is shifted right with its sign.
+    /// The result of EXTU: `a` shifted left by `k` and then right by `m`. Of SET and CLR: the bits from `k` up to `m` become 1 or 0.
+    /// Of other operations that of EXT, which is shifted right with its sign.
     pub fn field(self, a: u32, k: u32, m: u32) -> u32
         ensures { result ≡ field_of self a k m }
     {
-        let top = shift_left(a, k);
         match self {
-            Op::Extu => shift_right_unsigned(top, m),
-            _ => shift_right(top, m),
+            Op::Extu => shift_right_unsigned(shift_left(a, k), m),
+            Op::Set => a | ones_from(k, m),
+            Op::Clr => a & complement(ones_from(k, m)),
+            _ => shift_right(shift_left(a, k), m),
         }
+    }
+
+    /// The same, of a field that the bits 9 to 5 and 4 to 0 of a register tell.
+    fn field_by(self, a: u32, told: u32) -> u32
+        ensures { result ≡ field_by self a told }
+    {
+        self.field(a, told / 32 % 32, told % 32)
     }
 
     /// The low bytes of `v` that the access of a load or store covers, as a number.

@@ -41,9 +41,10 @@ pub enum Op {
     Shr,
     /// `SHRU`: the first source, shifted right by the low six bits of the second.
     Shru,
-    /// `EXT`: shifted left by the first constant, then right with the sign by the second.
+    /// `EXT`: shifted left by the first constant, then right with the sign by the second. In a register these are its bits
+    /// 9 to 5 and 4 to 0.
     Ext,
-    /// `EXTU`: shifted left by the first constant, then right by the second.
+    /// `EXTU`: the same without the sign.
     Extu,
     /// `MVK`: the constant.
     Mvk,
@@ -91,6 +92,54 @@ pub enum Op {
     Stw,
     /// `B`: a branch to a block or to the address in a register.
     B,
+    /// `LMBD`: how many bits of the second source stand above its leftmost 1, where the first source is odd, and else above its
+    /// leftmost 0; 32 where it has none.
+    Lmbd,
+    /// `NORM`: how many bits of the source below its sign repeat the sign.
+    Norm,
+    /// `SUBC`: a step of a division: twice the difference plus 1 where the second source is not above the first as an unsigned number,
+    /// else twice the first.
+    Subc,
+    /// `SADD`: the sum of the sources as signed numbers, saturated.
+    Sadd,
+    /// `SSUB`: the first source minus the second as signed numbers, saturated.
+    Ssub,
+    /// `SET`: the bits from the first constant up to the second become 1. In a register these are its bits 9 to 5 and 4 to 0.
+    Set,
+    /// `CLR`: the same bits become 0.
+    Clr,
+    /// `SSHL`: the first source as a signed number, shifted left by the low five bits of the second, saturated.
+    Sshl,
+    /// `SMPY`: twice the product of the low halves, both signed, saturated.
+    Smpy,
+    /// `SMPYH`: twice the product of the high halves, both signed, saturated.
+    Smpyh,
+    /// `SMPYHL`: twice the product of the first's high half and the second's low half, both signed, saturated.
+    Smpyhl,
+    /// `SMPYLH`: twice the product of the first's low half and the second's high half, both signed, saturated.
+    Smpylh,
+    /// `MPYLHU`: the product of the first's low half and the second's high half, both unsigned.
+    Mpylhu,
+    /// `MPYHLU`: the product of the first's high half and the second's low half, both unsigned.
+    Mpyhlu,
+    /// `MPYHUS`: the product of the high halves, the first unsigned, the second signed.
+    Mpyhus,
+    /// `MPYHSU`: the product of the high halves, the first signed, the second unsigned.
+    Mpyhsu,
+    /// `MPYHULS`: the product of the first's high half, unsigned, and the second's low half, signed.
+    Mpyhuls,
+    /// `MPYHSLU`: the product of the first's high half, signed, and the second's low half, unsigned.
+    Mpyhslu,
+    /// `MPYLUHS`: the product of the first's low half, unsigned, and the second's high half, signed.
+    Mpyluhs,
+    /// `MPYLSHU`: the product of the first's low half, signed, and the second's high half, unsigned.
+    Mpylshu,
+    /// `SUBAB`: the first source minus the second.
+    Subab,
+    /// `SUBAH`: the first source minus twice the second.
+    Subah,
+    /// `SUBAW`: the first source minus four times the second.
+    Subaw,
 }
 
 /// How an access forms its address from the base R and the offset k, which counts in units of the
@@ -114,7 +163,7 @@ pub enum AddressForm {
 /// The offset of an access, in units of the access's size.
 #[derive(Clone, Copy, PartialEq, Eq, Debug)]
 pub enum Offset {
-    /// A constant, 0 to 31 in an instruction.
+    /// A constant: 0 to 31 in an instruction, and up to 32,767 above B14 and B15.
     Constant(i64),
     /// The value of a register, which lies on the base's side in an instruction.
     Register(Reg),
@@ -158,8 +207,8 @@ impl Op {
     ghost use Rattle.c62_op.specs.Shape.{accesses_or_branches, delay_of, is_store, is_load, is_branch, reads_destination};
     ghost use Rattle.c62_op.specs.Table.{mnemonic_of};
 
-    /// All 41 operations, in the order of `docs/MACHINE.md`, "Instruction table".
-    pub const ALL: [Op; 41] = [
+    /// All 64 operations, in the order of `docs/MACHINE.md`, "Instruction table".
+    pub const ALL: [Op; 64] = [
         Op::Add,
         Op::Sub,
         Op::And,
@@ -201,9 +250,33 @@ impl Op {
         Op::Sth,
         Op::Stw,
         Op::B,
+        Op::Lmbd,
+        Op::Norm,
+        Op::Subc,
+        Op::Sadd,
+        Op::Ssub,
+        Op::Set,
+        Op::Clr,
+        Op::Sshl,
+        Op::Smpy,
+        Op::Smpyh,
+        Op::Smpyhl,
+        Op::Smpylh,
+        Op::Mpylhu,
+        Op::Mpyhlu,
+        Op::Mpyhus,
+        Op::Mpyhsu,
+        Op::Mpyhuls,
+        Op::Mpyhslu,
+        Op::Mpyluhs,
+        Op::Mpylshu,
+        Op::Subab,
+        Op::Subah,
+        Op::Subaw,
     ];
 
     /// The name in assembly text, in capitals.
+    #[inline(always)]
     pub fn mnemonic(self) -> &'static str
         ensures { result.now ≡ mnemonic_of self }
     {
@@ -212,6 +285,7 @@ impl Op {
 
     /// The delay slots of the result, in cycles: 1 for a multiply, 4 for a load, 5 for a branch, else
     /// 0 (SPRU189, "Delay Slots").
+    #[inline(always)]
     pub fn delay(self) -> u8
         ensures { result ≡ delay_of self }
     {
@@ -219,6 +293,7 @@ impl Op {
     }
 
     /// Whether this is `STB`, `STH` or `STW`.
+    #[inline(always)]
     pub fn is_store(self) -> bool
         ensures { result ≡ is_store self }
     {
@@ -226,6 +301,7 @@ impl Op {
     }
 
     /// Whether this is `LDB`, `LDBU`, `LDH`, `LDHU` or `LDW`.
+    #[inline(always)]
     pub fn is_load(self) -> bool
         ensures { result ≡ is_load self }
     {
@@ -263,6 +339,14 @@ impl Op {
 
 impl AddressForm {
     ghost use Rattle.c62_op.specs.Shape.{changes_base};
+    ghost use Rattle.c62_op.specs.Takes.{is_plus};
+
+    /// Whether the address is above a base that stays.
+    pub(crate) fn is_plus(self) -> bool
+        ensures { result ≡ is_plus self }
+    {
+        matches!(self, AddressForm::Plus)
+    }
 
     /// Whether the access writes its base: all forms but `*+R[k]` and `*-R[k]` (SPRU189, "Addressing Modes").
     pub fn changes_base(self) -> bool

@@ -130,6 +130,17 @@ impl Unit {
     ];
 }
 
+impl Reg {
+    ghost use Rattle.c62_op.specs.Takes.{is_far_base};
+
+    /// Whether this is B14 or B15, above which a load or store may have an offset of 15 bits.
+    pub(crate) fn is_far_base(self) -> bool
+        ensures { result ≡ is_far_base self }
+    {
+        self.side == Side::B && (self.number == 14 || self.number == 15)
+    }
+}
+
 impl Letter {
     ghost use Rattle.c62_op.specs.declared.register.Side.TheVariants.{A as OnA};
     ghost use Rattle.c62_op.specs.Units.{index_on};

@@ -2,13 +2,15 @@
 
 ghost use Rattle.std.specs.Prelude.{◌≡◌};
 ghost use Rattle.c62_op.specs.Shape.{side_of};
-ghost use Rattle.c62_op.specs.Source.{first_source, second_source, lies_across, is_first_fixed, is_second_fixed};
+ghost use Rattle.c62_op.specs.Source.{first_source, second_source, lies_across, is_first_fixed, is_second_fixed, target_may_cross};
 
 use crate::operands::{Op, Operands};
-use crate::table::row_of;
+use crate::set::InstructionSet;
+use crate::table::{forms, row_of};
 
 impl Op {
     /// Whether no form lets the first source cross.
+    #[inline(always)]
     pub fn is_first_fixed(self) -> bool
         ensures { result ≡ is_first_fixed self }
     {
@@ -16,10 +18,18 @@ impl Op {
     }
 
     /// Whether no form lets the second source cross.
+    #[inline(always)]
     pub fn is_second_fixed(self) -> bool
         ensures { result ≡ is_second_fixed self }
     {
         row_of(self).second_is_fixed
+    }
+
+    /// Whether some form of the set lets the register that a branch goes to come over the cross path.
+    pub fn lets_target_cross(self, set: InstructionSet) -> bool
+        ensures { result ≡ target_may_cross set self }
+    {
+        forms(self).iter().any(|form| set.has_all_of(form.set) && form.pattern.lets_target_cross())
     }
 }
 

@@ -5,6 +5,7 @@ use c62_exec::{Count, Flown, fly, fly_counted, is_issuable};
 use c62_flight::Stop;
 use c62_insn::Reg;
 use c62_insn::Side::{self, A, B};
+use c62_op::InstructionSet;
 use c62_packet::Placed;
 use c62_read::{What, read_insn};
 use c62_rows::{Row, Rows};
@@ -108,7 +109,9 @@ impl Draft {
             Some(rest) => (rest, true),
             None => (text, false),
         };
-        let reading = read_insn(text.as_bytes()).ok().ok_or("a line")?;
+        let reading = read_insn(InstructionSet::Core, text.as_bytes())
+            .ok()
+            .ok_or("a line")?;
         if let Some(label) = &reading.label {
             self.label(label.as_bytes());
         }

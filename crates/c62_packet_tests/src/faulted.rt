@@ -7,6 +7,7 @@ use c62_faulted_packets::{faults_of_flight, faults_of_packets};
 use c62_insn::Reg;
 use c62_insn::Side::{A, B};
 use c62_listing_reader::read_listing;
+use c62_op::InstructionSet;
 use c62_rows::read_from;
 use c62_serial::State;
 use std::alloc::{AllocError, Global};
@@ -106,7 +107,7 @@ fn check(
 #[test]
 fn faults_of_listings(rt: HostRuntime) -> Result<(), Fail> {
     for (text, want) in LISTINGS.iter() {
-        let packets = read_listing(rt.alloc(), text.as_bytes())?;
+        let packets = read_listing(InstructionSet::Core, rt.alloc(), text.as_bytes())?;
         let mut state = State::new(rt.alloc())?;
         state.set(A4, 1);
         let faults = faults_of_packets(rt.alloc(), &packets, &mut state, 3)?;
@@ -118,7 +119,7 @@ fn faults_of_listings(rt: HostRuntime) -> Result<(), Fail> {
 #[test]
 fn faults_of_flights(rt: HostRuntime) -> Result<(), Fail> {
     for (text, want) in FLIGHTS.iter() {
-        let begun = read_from(rt.alloc(), text.as_bytes(), None)
+        let begun = read_from(InstructionSet::Core, rt.alloc(), text.as_bytes(), None)
             .ok()
             .ok_or("rows")?;
         if !is_issuable(&begun.rows) {
@@ -137,7 +138,7 @@ fn faults_where_memory_begins_elsewhere(rt: HostRuntime) -> Result<(), Fail> {
     // the first access lies below memory, the second at its begin
     let text = b"   LDW .D1T1 *A4,A5\n   NOP 4\n   LDW .D2T2 *B4,B5\n   NOP 4\n";
     let want = "line 1: LDW reads 4 bytes at 0x0, past the end of memory\n";
-    let packets = read_listing(rt.alloc(), text)?;
+    let packets = read_listing(InstructionSet::Core, rt.alloc(), text)?;
     let mut state = State::new(rt.alloc())?;
     state.set_base(0x8000_0000);
     state.set(B4, 0x8000_0000);

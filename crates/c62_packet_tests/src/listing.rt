@@ -1,6 +1,7 @@
 //! Listings of labels; those with instructions are read from texts in a crate above.
 
 use c62_listing::list;
+use c62_op::InstructionSet;
 use c62_packet::{PacketBlock, Packets};
 use c62_read::read_insn;
 use std::test::Fail;
@@ -9,7 +10,11 @@ use std::test::Fail;
 fn lists(rt: &HostRuntime, lines: &[&[u8]], want: &str) -> Result<bool, Fail> {
     let mut packets = Packets::new(rt.alloc());
     for line in lines {
-        let block = PacketBlock::new(read_insn(line)?.label, 0, Vec::new(rt.alloc()))?;
+        let block = PacketBlock::new(
+            read_insn(InstructionSet::Core, line)?.label,
+            0,
+            Vec::new(rt.alloc()),
+        )?;
         if packets.len() < 64 && packets.push(block).is_err() {
             return Ok(false);
         }

@@ -2,6 +2,7 @@
 
 use c62_listing::list;
 use c62_listing_reader::{ListFault, read_listing};
+use c62_op::InstructionSet;
 use c62_packet::Packets;
 use c62_read::MOST_BLOCKS;
 use std::alloc::Global;
@@ -9,7 +10,7 @@ use std::test::Fail;
 
 /// What a text is refused for, or its own listing.
 fn told(alloc: Global, text: &[u8]) -> Result<String, Fail> {
-    match read_listing(alloc, text) {
+    match read_listing(InstructionSet::Core, alloc, text) {
         Ok(packets) => {
             if packets.closed() {
                 Ok(list(alloc, &packets)?)

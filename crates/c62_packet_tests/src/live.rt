@@ -2,6 +2,7 @@
 
 use c62_insn::{Letter, Side, Unit};
 use c62_live::{SideLives, lives_of};
+use c62_op::InstructionSet;
 use c62_packet::Placed;
 use c62_read::read_program;
 use std::alloc::Global;
@@ -69,7 +70,7 @@ const ROWS: [Row; 5] = [
 ];
 
 fn placed_of(alloc: Global, row: &Row) -> Result<Vec<Placed>, Fail> {
-    let program = read_program(alloc, row.text.as_bytes())?;
+    let program = read_program(InstructionSet::Core, alloc, row.text.as_bytes())?;
     let mut placed = Vec::new(alloc);
     for block in program.blocks() {
         for (entry, (cycle, letter, side)) in block.insns().iter().zip(row.spots.iter()) {

@@ -1,6 +1,7 @@
 //! Blocks without instructions. Those with instructions are read from listings in a crate above.
 
 use crate::expect::equal;
+use c62_op::InstructionSet;
 use c62_packet::{BlockFault, PacketBlock, Packets};
 use c62_read::read_insn;
 use std::test::Fail;
@@ -28,7 +29,7 @@ fn lists_blocks(rt: HostRuntime) -> Result<(), Fail> {
     let mut packets = Packets::new(rt.alloc());
     equal(&rt, &packets.len(), &0);
     assert!(rt; packets.closed());
-    let label = read_insn(b"L1:")?.label;
+    let label = read_insn(InstructionSet::Core, b"L1:")?.label;
     let block = PacketBlock::new(label, 0, Vec::new(rt.alloc()))?;
     match packets.push(block) {
         Ok(()) => {}

@@ -3,6 +3,7 @@
 use crate::expect::equal;
 use c62_insn::Reg;
 use c62_insn::Side::A;
+use c62_op::InstructionSet;
 use c62_profile::{run_serial, serial_table};
 use c62_read::read_program;
 use c62_serial::State;
@@ -41,7 +42,7 @@ const TABLES: [(&str, u32, u32, &str); 7] = [
 #[test]
 fn tables(rt: HostRuntime) -> Result<(), Fail> {
     for (text, value, most, rows) in &TABLES {
-        let program = read_program(rt.alloc(), text.as_bytes())?;
+        let program = read_program(InstructionSet::Core, rt.alloc(), text.as_bytes())?;
         let mut state = State::new(rt.alloc())?;
         state.set(A1, *value);
         let (chain, tally) = run_serial(rt.alloc(), &program, &mut state, *most)?;

@@ -1,6 +1,7 @@
 //! Texts of packets and their rows, worked out by hand.
 
 use c62_insn::Operands;
+use c62_op::InstructionSet;
 use c62_packet::Placed;
 use c62_rows::{Row, RowsText, read_from, read_rows};
 use std::alloc::{AllocError, Global};
@@ -40,7 +41,7 @@ fn text_shown(alloc: Global, text: &RowsText) -> Result<String, AllocError> {
 
 /// The rows of a text, or what it is refused for.
 fn told(alloc: Global, text: &str) -> Result<String, AllocError> {
-    match read_rows(alloc, text.as_bytes()) {
+    match read_rows(InstructionSet::Core, alloc, text.as_bytes()) {
         Ok(read) => text_shown(alloc, &read),
         Err(fault) => format!(in alloc; "{fault}"),
     }
@@ -122,7 +123,7 @@ fn texts_have_rows(rt: HostRuntime) -> Result<(), Fail> {
 
 /// The constants of the instructions of a text in the order of its rows, or what it is refused for.
 fn constants(alloc: Global, text: &str) -> Result<String, AllocError> {
-    let read = match read_rows(alloc, text.as_bytes()) {
+    let read = match read_rows(InstructionSet::Core, alloc, text.as_bytes()) {
         Ok(read) => read,
         Err(fault) => return format!(in alloc; "{fault}"),
     };
@@ -210,7 +211,7 @@ fn branches(alloc: Global, labels: u32) -> Result<String, AllocError> {
 #[test]
 fn branches_name_256_labels(rt: HostRuntime) -> Result<(), Fail> {
     let most = branches(rt.alloc(), 256)?;
-    let read = read_rows(rt.alloc(), most.as_bytes());
+    let read = read_rows(InstructionSet::Core, rt.alloc(), most.as_bytes());
     let Ok(read) = read else {
         assert!(rt; false, "refused");
         return Ok(());
@@ -248,7 +249,11 @@ const FROM: [(&str, Option<u32>); 9] = [
 
 #[test]
 fn labels_name_rows(rt: HostRuntime) -> Result<(), Fail> {
-    let read = read_rows(rt.alloc(), b"K: NOP\n.L2:\n NOP 3\nEND:\n");
+    let read = read_rows(
+        InstructionSet::Core,
+        rt.alloc(),
+        b"K: NOP\n.L2:\n NOP 3\nEND:\n",
+    );
     let Ok(read) = read else {
         assert!(rt; false, "refused");
         return Ok(());
@@ -262,7 +267,7 @@ fn labels_name_rows(rt: HostRuntime) -> Result<(), Fail> {
 
 /// The row with which a run of a text begins, or what it is refused for.
 fn begun(alloc: Global, text: &str, from: Option<&[u8]>) -> Result<String, AllocError> {
-    match read_from(alloc, text.as_bytes(), from) {
+    match read_from(InstructionSet::Core, alloc, text.as_bytes(), from) {
         Ok(begun) => {
             let first = begun.first;
             format!(in alloc; "{first}")

@@ -5,6 +5,7 @@ use c62_exec::is_issuable;
 use c62_insn::Reg;
 use c62_insn::Side::{A, B};
 use c62_listing_reader::read_listing;
+use c62_op::InstructionSet;
 use c62_rows::read_from;
 use c62_serial::State;
 use c62_trace::{Lines, View, Window};
@@ -144,7 +145,7 @@ fn traced<W: Write + Drop>(
     room: usize,
     stream: W,
 ) -> Result<(W, bool), Fail> {
-    let begun = read_from(alloc, text.as_bytes(), None)
+    let begun = read_from(InstructionSet::Core, alloc, text.as_bytes(), None)
         .ok()
         .ok_or("a text")?;
     let issuable = is_issuable(&begun.rows);
@@ -206,7 +207,7 @@ fn streams_that_end(rt: HostRuntime) -> Result<(), Fail> {
 #[test]
 fn chains(rt: HostRuntime) -> Result<(), Fail> {
     for (text, lines) in &LISTINGS {
-        let packets = read_listing(rt.alloc(), text.as_bytes())
+        let packets = read_listing(InstructionSet::Core, rt.alloc(), text.as_bytes())
             .ok()
             .ok_or("a listing")?;
         let names = names_of_packets(rt.alloc(), &packets)?;

@@ -5,26 +5,26 @@ ghost use Rattle.c62_rules.specs.Dependence.{begin_of};
 
 use c62_insn::{AddressForm, Insn, Offset, Operands, Reg};
 
-/// The bytes that an access with a constant offset covers, counted from 124 bytes before its base: no offset reaches
+/// The bytes that an access with a constant offset covers, counted from 131,068 bytes before its base: no offset reaches
 /// farther.
 #[derive(Clone, Copy)]
 pub struct Covered {
     pub base: Reg,
-    begin: u8,
+    begin: u32,
     size: u8,
-    pub ghost near: { begin + size ≤ 252 },
+    pub ghost near: { begin + size ≤ 262140 },
 }
 
 /// Where the bytes begin, of the offset in bytes.
-fn begin_of(form: AddressForm, offset: u8) -> u8
-    requires { offset ≤ 124 }
+fn begin_of(form: AddressForm, offset: u32) -> u32
+    requires { offset ≤ 131068 }
     ensures begin { result ≡ begin_of form offset }
-    ensures near { result ≤ 248 }
+    ensures near { result ≤ 262136 }
 {
     match form {
-        AddressForm::Plus | AddressForm::PreIncrement => 124 + offset,
-        AddressForm::Minus | AddressForm::PreDecrement => 124 - offset,
-        AddressForm::PostIncrement | AddressForm::PostDecrement => 124,
+        AddressForm::Plus | AddressForm::PreIncrement => 131_068 + offset,
+        AddressForm::Minus | AddressForm::PreDecrement => 131_068 - offset,
+        AddressForm::PostIncrement | AddressForm::PostDecrement => 131_068,
     }
 }
 
@@ -45,18 +45,24 @@ impl Covered {
                 ..
             } => {
                 let size = insn.op().size();
-                let begin = begin_of(form, (k.unsigned_abs() * u64::from(size)) as u8);
+                let begin = begin_of(form, (k.unsigned_abs() * u64::from(size)) as u32);
                 Some(Covered { base, begin, size })
             }
             _ => None,
         }
     }
 
+    /// The first byte behind them.
+    fn end(self) -> u32
+        ensures { result ≡ self.begin + self.size }
+    {
+        self.begin + u32::from(self.size)
+    }
+
     /// Whether both lie at one base, and do not meet.
     pub fn is_apart(self, other: Covered) -> bool
         ensures { result ≡ are_apart (range_is self) (range_is other) }
     {
-        self.base == other.base
-            && (self.begin + self.size <= other.begin || other.begin + other.size <= self.begin)
+        self.base == other.base && (self.end() <= other.begin || other.end() <= self.begin)
     }
 }

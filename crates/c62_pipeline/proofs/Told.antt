@@ -12,12 +12,14 @@ use Rattle.c62_check_loops.proofs.Done.{loops_do_the_same}
 use Rattle.c62_pipeline.specs.declared.written.Pipelining.{Pipelining}
 use Rattle.c62_pipeline.specs.Checked.{IsChecked}
 use Rattle.c62_pipeline.specs.Laws.{WhatIsWrittenIsDone}
+use Rattle.c62_op.specs.declared.set.InstructionSet.{InstructionSet}
 
-pub checked_text : (trips : List (Name × ℕ)) (apart : List Reg) (blocks : List Serial) (read : RowsText)
-    (lines : List ℕ) (same plain : Bool) (text : List ℕ) → ReadsAs text read
+pub checked_text : (isa : InstructionSet) (trips : List (Name × ℕ)) (apart : List Reg) (blocks : List Serial)
+    (read : RowsText)
+    (lines : List ℕ) (same plain : Bool) (text : List ℕ) → ReadsAs isa text read
     → AreLoopsTold trips apart blocks (text_of read.rows) lines same plain → plain ≡ true → same ≡ true
-    → IsChecked trips apart blocks text
-checked_text trips apart blocks read lines same plain text is told bare holds = record {
+    → IsChecked isa trips apart blocks text
+checked_text isa trips apart blocks read lines same plain text is told bare holds = record {
   packets = text_of read.rows;
   labels = names_of read;
   read = is.is_text;
@@ -26,9 +28,10 @@ checked_text trips apart blocks read lines same plain text is told bare holds = 
       (subst (λ b. AreLoopsTold trips apart blocks (text_of read.rows) lines b plain) holds told);
 }
 
-pub written_done : (trips : List (Name × ℕ)) (apart : List Reg) (blocks : List Serial) (own : List Packed)
-    (written : Pipelining) → WhatIsWrittenIsDone trips apart blocks own written
-written_done trips apart blocks own written is =
+pub written_done : (isa : InstructionSet) (trips : List (Name × ℕ)) (apart : List Reg) (blocks : List Serial)
+    (own : List Packed)
+    (written : Pipelining) → WhatIsWrittenIsDone isa trips apart blocks own written
+written_done isa trips apart blocks own written is =
     elim is.does [
       | inl told ↦ inl (record {
         packets = told.packets;

@@ -10,13 +10,14 @@ use Rattle.c62_rows.specs.Text.{IsText}
 use Rattle.c62_check_loops.specs.Told.{AreLoopsTold}
 use Rattle.c62_pipeline.specs.Chosen.{IsChosen}
 use Rattle.c62_pipeline.specs.declared.written.Pipelining.{Pipelining}
+use Rattle.c62_op.specs.declared.set.InstructionSet.{InstructionSet}
 
 -- The text is read as packets, and what is told of the program's blocks and these is that all is the same, with no register named, where so
 -- many trips are promised of the loops of these labels, and that accesses from two of these registers are apart.
-pub record IsChecked (trips : List (Name × ℕ)) (apart : List Reg) (blocks : List Serial) (text : List ℕ) : Type 0 where
+pub record IsChecked (isa : InstructionSet) (trips : List (Name × ℕ)) (apart : List Reg) (blocks : List Serial) (text : List ℕ) : Type 0 where
   pub packets : Text
   pub labels : List (Name × ℕ)
-  pub read : IsText text packets labels
+  pub read : IsText isa text packets labels
   pub lines : List ℕ
   pub told : AreLoopsTold trips apart blocks packets lines true true
 
@@ -27,9 +28,9 @@ pub record IsOwn (own : List ℕ) (written : Pipelining) : Type 0 where
 
 -- What is written are packets that do what the program does, or each block's own, of which this is the listing; and what is told of each of
 -- its loops is true.
-pub record IsWrittenOf (trips : List (Name × ℕ)) (apart : List Reg) (blocks : List Serial) (own : List ℕ) (written : Pipelining) : Type 0 where
-  pub does : IsChecked trips apart blocks written.text.items ⊎ IsOwn own written
+pub record IsWrittenOf (isa : InstructionSet) (trips : List (Name × ℕ)) (apart : List Reg) (blocks : List Serial) (own : List ℕ) (written : Pipelining) : Type 0 where
+  pub does : IsChecked isa trips apart blocks written.text.items ⊎ IsOwn own written
   pub chosen : All (IsChosen trips apart blocks) written.loops.items
 
-abbrev pub IsWritten : List (Name × ℕ) → List Reg → List Serial → List Packed → Pipelining → Type 0
-IsWritten trips apart blocks own written = IsWrittenOf trips apart blocks (listing own) written
+abbrev pub IsWritten : InstructionSet → List (Name × ℕ) → List Reg → List Serial → List Packed → Pipelining → Type 0
+IsWritten isa trips apart blocks own written = IsWrittenOf isa trips apart blocks (listing own) written

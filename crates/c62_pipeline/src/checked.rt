@@ -8,6 +8,7 @@ ghost use Rattle.c62_pipeline.specs.Checked.{IsChecked};
 
 use c62_check_loops::check_loops;
 use c62_command::Promises;
+use c62_op::InstructionSet;
 use c62_read::Program;
 use c62_rows::{RowsFault, RowsText, read_rows};
 use std::alloc::{AllocError, Global};
@@ -15,13 +16,14 @@ use std::alloc::{AllocError, Global};
 /// Whether packets that were read do what the program does, where so much is promised: they may leave no register otherwise.
 #[tactic(auto, using(crate::proofs::Told::checked_text))]
 fn are_same(
+    isa: InstructionSet,
     alloc: Global,
     program: &Program,
     read: &RowsText,
     promises: &Promises,
 ) -> Result<bool, AllocError>
-    ensures { (text : List ℕ) → ReadsAs text read.now → IfOk result (λ same. OnTrue same
-        (IsChecked (map trips_of promises.now.trips.items) promises.now.apart.items program.now text)) }
+    ensures { (text : List ℕ) → ReadsAs isa text read.now → IfOk result (λ same. OnTrue same
+        (IsChecked isa (map trips_of promises.now.trips.items) promises.now.apart.items program.now text)) }
 {
     let checked = check_loops(alloc, program, read, promises)?;
     if checked.plain {
@@ -37,16 +39,17 @@ fn are_same(
 ///
 /// `AllocError` where memory ran out.
 pub(crate) fn is_checked(
+    isa: InstructionSet,
     alloc: Global,
     program: &Program,
     text: &[u8],
     promises: &Promises,
 ) -> Result<bool, AllocError>
     ensures { IfOk result (λ checked. OnTrue checked
-        (IsChecked (map trips_of promises.now.trips.items) promises.now.apart.items program.now text.now)) }
+        (IsChecked isa (map trips_of promises.now.trips.items) promises.now.apart.items program.now text.now)) }
 {
-    match read_rows(alloc, text) {
-        Ok(read) => are_same(alloc, program, &read, promises),
+    match read_rows(isa, alloc, text) {
+        Ok(read) => are_same(isa, alloc, program, &read, promises),
         Err(RowsFault::Memory) => Err(AllocError),
         Err(_) => Ok(false),
     }

@@ -12,6 +12,7 @@ use crate::chosen::{Choice, choice_of};
 use crate::splice::spliced;
 use c62_command::Promises;
 use c62_listing::list;
+use c62_op::InstructionSet;
 use c62_packet::{PacketBlock, Packets};
 use c62_read::{Block, Program};
 use std::alloc::{AllocError, Global};
@@ -69,6 +70,7 @@ fn choices_of(
 
 /// The text with these choices, where it is one of packets that do what the program does.
 fn checked_text(
+    isa: InstructionSet,
     alloc: Global,
     program: &Program,
     listing: &[u8],
@@ -76,10 +78,10 @@ fn checked_text(
     promises: &Promises,
 ) -> Result<Option<Vec<u8>>, AllocError>
     ensures { IfOk result (λ text. IfSome text (λ text.
-        IsChecked (map trips_of promises.now.trips.items) promises.now.apart.items program.now text.items)) }
+        IsChecked isa (map trips_of promises.now.trips.items) promises.now.apart.items program.now text.items)) }
 {
     let text = spliced(alloc, listing, program.blocks(), choices)?;
-    if is_checked(alloc, program, &text, promises)? {
+    if is_checked(isa, alloc, program, &text, promises)? {
         Ok(Some(text))
     } else {
         Ok(None)
@@ -89,6 +91,7 @@ fn checked_text(
 /// Packets with as many of these choices as are told to do what the program does: where all together aren't, one after the other is given
 /// up. Where none is left, each block has its own.
 fn written_of(
+    isa: InstructionSet,
     alloc: Global,
     program: &Program,
     listing: Vec<u8>,
@@ -96,14 +99,14 @@ fn written_of(
     promises: &Promises,
 ) -> Result<Pipelining, AllocError>
     requires { All (IsChosen (map trips_of promises.now.trips.items) promises.now.apart.items program.now) choices.items }
-    ensures { IfOk result (IsWrittenOf (map trips_of promises.now.trips.items) promises.now.apart.items program.now listing.items) }
+    ensures { IfOk result (IsWrittenOf isa (map trips_of promises.now.trips.items) promises.now.apart.items program.now listing.items) }
 {
     for given_up in 0..choices.len() {
         let left = &choices[given_up..];
         if !left.iter().any(|choice| choice.is_pipelined()) {
             break;
         }
-        if let Some(text) = checked_text(alloc, program, &listing, left, promises)? {
+        if let Some(text) = checked_text(isa, alloc, program, &listing, left, promises)? {
             return Ok(Pipelining {
                 text,
                 loops: choices,
@@ -135,15 +138,16 @@ fn listing_of(alloc: Global, packets: &Packets) -> Result<Vec<u8>, AllocError>
 ///
 /// `AllocError` where memory ran out.
 pub fn pipeline(
+    isa: InstructionSet,
     alloc: Global,
     program: &Program,
     packets: &Packets,
     promises: &Promises,
 ) -> Result<Pipelining, AllocError>
     requires { IsTrue (is_closed packets.now) }
-    ensures { IfOk result (IsWritten (map trips_of promises.now.trips.items) promises.now.apart.items program.now packets.now) }
+    ensures { IfOk result (IsWritten isa (map trips_of promises.now.trips.items) promises.now.apart.items program.now packets.now) }
 {
     let own = listing_of(alloc, packets)?;
     let choices = choices_of(alloc, program, packets, promises)?;
-    written_of(alloc, program, own, choices, promises)
+    written_of(isa, alloc, program, own, choices, promises)
 }

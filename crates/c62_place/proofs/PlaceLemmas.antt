@@ -1,5 +1,5 @@
 -- Where tokens stand in their line.
-use Rattle.c62_token.proofs.Common.{◌≡◌, ℕ, zero, suc, ◌+◌, ◌-◌, ◌<◌, ◌≤◌, Bool, true, false, eqb, List, [], ◌∷◌}
+use Rattle.c62_token.proofs.Common.{◌≡◌, ℕ, zero, suc, ◌+◌, ◌<◌, ◌≤◌, true, false, eqb, List, [], ◌∷◌}
 use Rattle.c62_token.proofs.Common.{length, get_or, take, drop, refl, sym, ap, ◌∙◌}
 use Rattle.c62_token.proofs.Common.{arith, nat_tests, begins, is_blank, is_solid, tokens, inl, inr, cases_Bool}
 use Rattle.std.proofs.Math.Seq.{drop-cons}

@@ -1,10 +1,10 @@
 -- At which token of a line a fault of serial text is found, and where that token stands (docs/FAULTS.md, "Where a fault is found";
 -- docs/SERIAL_TEXT.md, "Faults of a line").
-use Rattle.std.specs.Prelude.{◌≡◌, ℕ, ℤ, pos, ◌+◌, ◌-◌, ◌≤◌, ◌<◌, nat_lt, int_le, Bool, true, false, not, ◌&&◌, List, [], ◌∷◌, length, take, drop, Option, Some, None, position, unwrap_or, if◌then◌else◌}
+use Rattle.std.specs.Prelude.{◌≡◌, ℕ, pos, ◌+◌, ◌-◌, ◌≤◌, ◌<◌, nat_lt, int_le, Bool, true, false, not, ◌&&◌, List, [], ◌∷◌, length, take, drop, Option, Some, None, position, unwrap_or, if◌then◌else◌}
 use Rattle.c62_op.specs.declared.register.Cond.{Cond as Condition}
-use Rattle.c62_insn.specs.declared.fault.FormFault.TheVariants.{NoUnit, BadSide, BadCondition, ConstantRange, TwoCrossed}
+use Rattle.c62_insn.specs.declared.fault.FormFault.TheVariants.{BadCondition, ConstantRange}
 use Rattle.c62_token.specs.Token.{tokens, is_allowed}
-use Rattle.c62_token.specs.Kind.{Word, kinds_of}
+use Rattle.c62_token.specs.Kind.{Word, kinds_in}
 use Rattle.c62_token.specs.declared.kind.Kind.{Kind}
 use Rattle.c62_token.specs.declared.kind.Kind.TheVariants as kind
 use Rattle.c62_line.specs.declared.limits.TheConstants.{MOST_LINE}
@@ -21,6 +21,8 @@ use Rattle.c62_place.specs.declared.sort.Sort.TheVariants.{Number, Colon}
 use Rattle.c62_place.specs.declared.place.Place.{Place}
 use Rattle.c62_place.specs.Sort.{same_sort, sorts_of}
 use Rattle.c62_place.specs.Shape.{all_forms, conditions, furthest, furthest_by, pauses}
+use Rattle.c62_op.specs.declared.set.InstructionSet.{InstructionSet}
+use Rattle.c62_op.specs.declared.set.InstructionSet.TheVariants.{Core}
 
 -- ---- how many tokens the parts of a line have
 
@@ -77,9 +79,9 @@ is_number_alone (Number ∷ []) = true
 is_number_alone _ = false
 
 -- The first token with which no operands of the mnemonic go on, and behind a NOP a number that it doesn't take.
-abbrev pub operand_token : Mnemonic → List Sort → ℕ
-operand_token Nop sorts = if is_number_alone sorts then 0 else furthest sorts pauses
-operand_token mnemonic sorts = furthest_by mnemonic sorts all_forms
+abbrev pub operand_token : InstructionSet → Mnemonic → List Sort → ℕ
+operand_token isa Nop sorts = if is_number_alone sorts then 0 else furthest sorts pauses
+operand_token isa mnemonic sorts = furthest_by isa mnemonic sorts all_forms
 
 abbrev pub is_pause : Mnemonic → Bool
 is_pause Nop = true
@@ -94,44 +96,45 @@ is_conditional_pause mnemonic (Some cond) = is_pause mnemonic
 -- Where all up to the operands is right: a fault of the form is found at the condition's register, at the constant, or of the
 -- instruction as a whole, which is told at its unit, or at its mnemonic where no unit is written. `front` is how many tokens
 -- stand before the operands, and `unit` how many of them are the unit.
-abbrev pub whole_token : Cause → Option Condition → Mnemonic → ℕ → List Word → ℕ
-whole_token (cause.Form BadCondition) cond mnemonic unit words = condition_tokens cond - 2
-whole_token (cause.Form ConstantRange) cond mnemonic unit words = condition_tokens cond + 1 + unit + constant_token (kinds_of words)
-whole_token (cause.Form fault) cond mnemonic unit words = condition_tokens cond + unit
-whole_token cause.BadOperand cond mnemonic unit words =
-    if is_conditional_pause mnemonic cond then 0 else condition_tokens cond + 1 + unit + operand_token mnemonic (sorts_of words)
-whole_token other cond mnemonic unit words = condition_tokens cond + 1 + unit
+abbrev pub whole_token : InstructionSet → Cause → Option Condition → Mnemonic → ℕ → List Word → ℕ
+whole_token isa (cause.Form BadCondition) cond mnemonic unit words = condition_tokens cond - 2
+whole_token isa (cause.Form ConstantRange) cond mnemonic unit words = condition_tokens cond + 1 + unit + constant_token (kinds_in isa words)
+whole_token isa (cause.Form fault) cond mnemonic unit words = condition_tokens cond + unit
+whole_token isa cause.BadOperand cond mnemonic unit words =
+    if is_conditional_pause mnemonic cond then 0 else condition_tokens cond + 1 + unit + operand_token isa mnemonic (sorts_of isa words)
+whole_token isa other cond mnemonic unit words = condition_tokens cond + 1 + unit
 
-abbrev pub by_unit : Cause → Option Condition → Mnemonic → List Word → Option (Option WrittenUnit × List Word) → ℕ
-by_unit fault cond mnemonic words None = condition_tokens cond + 1
-by_unit fault cond mnemonic words (Some (written, rest)) = whole_token fault cond mnemonic (unit_tokens written words) rest
+abbrev pub by_unit : InstructionSet → Cause → Option Condition → Mnemonic → List Word → Option (Option WrittenUnit × List Word) → ℕ
+by_unit isa fault cond mnemonic words None = condition_tokens cond + 1
+by_unit isa fault cond mnemonic words (Some (written, rest)) = whole_token isa fault cond mnemonic (unit_tokens written words) rest
 
-abbrev pub by_mnemonic : Cause → Option Condition → Option (Mnemonic × List Word) → ℕ
-by_mnemonic fault cond None = condition_tokens cond
-by_mnemonic fault cond (Some (mnemonic, words)) = by_unit fault cond mnemonic words (unit_behind mnemonic words)
+abbrev pub by_mnemonic : InstructionSet → Cause → Option Condition → Option (Mnemonic × List Word) → ℕ
+by_mnemonic isa fault cond None = condition_tokens cond
+by_mnemonic isa fault cond (Some (mnemonic, words)) = by_unit isa fault cond mnemonic words (unit_behind mnemonic words)
 
-abbrev pub by_condition : Cause → List Word → Option (Option Condition × List Word) → ℕ
-by_condition fault words None = furthest (sorts_of words) conditions
-by_condition fault words (Some (cond, rest)) = by_mnemonic fault cond (mnemonic_front rest)
+-- a condition has registers by their own names alone, in each set
+abbrev pub by_condition : InstructionSet → Cause → List Word → Option (Option Condition × List Word) → ℕ
+by_condition isa fault words None = furthest (sorts_of Core words) conditions
+by_condition isa fault words (Some (cond, rest)) = by_mnemonic isa fault cond (mnemonic_front isa rest)
 
 -- how many of these tokens, which stand behind the label, stand before the fault
-unfoldable pub instruction_token : Cause → List Word → ℕ
-instruction_token fault words = by_condition fault words (condition_front words)
+unfoldable pub instruction_token : InstructionSet → Cause → List Word → ℕ
+instruction_token isa fault words = by_condition isa fault words (condition_front words)
 
 -- ---- the token of a line
 
-abbrev pub behind_label : Cause → List Word → ℕ
-behind_label cause.BadLabel words = unwrap_or (first_colon (sorts_of words)) 0
-behind_label cause.Directive words = 0
-behind_label cause.TooManyInstructions words = 0
-behind_label fault words = instruction_token fault words
+abbrev pub behind_label : InstructionSet → Cause → List Word → ℕ
+behind_label isa cause.BadLabel words = unwrap_or (first_colon (sorts_of isa words)) 0
+behind_label isa cause.Directive words = 0
+behind_label isa cause.TooManyInstructions words = 0
+behind_label isa fault words = instruction_token isa fault words
 
 -- how many of a line's tokens stand before the one at which this fault of it is found
-unfoldable pub faulty_token : Cause → List Word → ℕ
-faulty_token cause.ParallelBar words = 0
-faulty_token cause.DuplicateLabel words = 0
-faulty_token cause.TooManyBlocks words = 0
-faulty_token fault words = label_tokens (label_front words).0 + behind_label fault (label_front words).1
+unfoldable pub faulty_token : InstructionSet → Cause → List Word → ℕ
+faulty_token isa cause.ParallelBar words = 0
+faulty_token isa cause.DuplicateLabel words = 0
+faulty_token isa cause.TooManyBlocks words = 0
+faulty_token isa fault words = label_tokens (label_front words).0 + behind_label isa fault (label_front words).1
 
 -- ---- where it stands
 
@@ -156,9 +159,9 @@ first_refused line = position (λ b. not (is_allowed b)) line
 
 -- where a fault of this line is found: a byte that isn't allowed, the first byte past the longest line, no place for a fault of
 -- no line, and else a token
-unfoldable pub IsPlace : Cause → List ℕ → Place → Type 0
-IsPlace cause.NotAscii line place = (place.start ≡ unwrap_or (first_refused line) 0) × (place.len ≡ 1)
-IsPlace cause.LineTooLong line place = (place.start ≡ MOST_LINE) × (place.len ≡ 1)
-IsPlace cause.TextTooLong line place = (place.start ≡ 0) × (place.len ≡ 0)
-IsPlace cause.Memory line place = (place.start ≡ 0) × (place.len ≡ 0)
-IsPlace fault line place = IsToken line (faulty_token fault (tokens line)) place
+unfoldable pub IsPlace : InstructionSet → Cause → List ℕ → Place → Type 0
+IsPlace isa cause.NotAscii line place = (place.start ≡ unwrap_or (first_refused line) 0) × (place.len ≡ 1)
+IsPlace isa cause.LineTooLong line place = (place.start ≡ MOST_LINE) × (place.len ≡ 1)
+IsPlace isa cause.TextTooLong line place = (place.start ≡ 0) × (place.len ≡ 0)
+IsPlace isa cause.Memory line place = (place.start ≡ 0) × (place.len ≡ 0)
+IsPlace isa fault line place = IsToken line (faulty_token isa fault (tokens line)) place

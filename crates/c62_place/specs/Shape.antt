@@ -1,6 +1,6 @@
 -- How operands may be written behind a mnemonic and its unit, as sorts of tokens (docs/SERIAL_TEXT.md, "Grammar", "Operands and
 -- address forms"; docs/MACHINE.md, "Instruction table"), and how far a line goes on as one of them.
-use Rattle.std.specs.Prelude.{◌≡◌, refl, ℕ, pos, ◌+◌, nat_lt, Bool, true, false, not, ◌&&◌, List, [], ◌∷◌, ◌++◌, Option, Some, None, is_some, map, max, if◌then◌else◌}
+use Rattle.std.specs.Prelude.{refl, ℕ, pos, ◌+◌, Bool, true, false, ◌&&◌, List, [], ◌∷◌, ◌++◌, Some, None, is_some, map, max, if◌then◌else◌}
 use Rattle.std.specs.List.{flat_map}
 use Rattle.std.proofs.lemmas.Bool.{ltb-true}
 use Rattle.c62_op.specs.declared.register.Side.TheVariants.{A}
@@ -9,12 +9,14 @@ use Rattle.c62_op.specs.declared.operands.AddressForm.TheVariants as form
 use Rattle.c62_op.specs.declared.operands.Offset.TheVariants as by
 use Rattle.c62_op.specs.declared.operands.Operands.{Operands}
 use Rattle.c62_op.specs.declared.operands.Operands.TheVariants as operands
+use Rattle.c62_op.specs.declared.set.InstructionSet.{InstructionSet}
+use Rattle.c62_op.specs.declared.set.InstructionSet.TheVariants.{Core, Full}
 use Rattle.c62_op.specs.Shape.{is_branch}
 use Rattle.c62_line.specs.declared.mnemonic.Mnemonic.{Mnemonic}
 use Rattle.c62_line.specs.declared.mnemonic.Mnemonic.TheVariants as name
 use Rattle.c62_line.specs.Line.{is_storing, operands_written}
 use Rattle.c62_place.specs.declared.sort.Sort.{Sort}
-use Rattle.c62_place.specs.declared.sort.Sort.TheVariants.{Comma, Star, Open, Close, Not, Plus, Minus, Increment, Decrement, Register, Number, Label, Other}
+use Rattle.c62_place.specs.declared.sort.Sort.TheVariants.{Comma, Star, Open, Close, Not, Plus, Minus, Increment, Decrement, Register, Number, Label}
 use Rattle.c62_place.specs.declared.shape.Form.{Form}
 use Rattle.c62_place.specs.declared.shape.Form.TheVariants as by_form
 use Rattle.c62_place.specs.Sort.{same_sort}
@@ -44,6 +46,19 @@ shapes_of by_form.Load = map (λ address. Star ∷ address ++ Comma ∷ Register
 shapes_of by_form.Store = map (λ address. Register ∷ Comma ∷ Star ∷ address) addresses
 shapes_of by_form.Register = (Register ∷ []) ∷ []
 shapes_of by_form.Label = (Label ∷ []) ∷ []
+
+-- what only the full set has: an offset behind a base without a sign
+abbrev pub unsigned_addresses : List (List Sort)
+unsigned_addresses = (Register ∷ Open ∷ Number ∷ Close ∷ []) ∷ (Register ∷ Open ∷ Register ∷ Close ∷ []) ∷ []
+
+abbrev pub full_shapes : Form → List (List Sort)
+full_shapes by_form.Load = map (λ address. Star ∷ address ++ Comma ∷ Register ∷ []) unsigned_addresses
+full_shapes by_form.Store = map (λ address. Register ∷ Comma ∷ Star ∷ address) unsigned_addresses
+full_shapes _ = []
+
+abbrev pub further_shapes : InstructionSet → Form → List (List Sort)
+further_shapes Core form = []
+further_shapes Full form = full_shapes form
 
 -- ---- which of them a mnemonic has
 
@@ -78,10 +93,10 @@ branches (name.Operation op) = is_branch op
 branches mnemonic = false
 
 -- whether the mnemonic takes operands of this form, whatever its registers and constants are
-unfoldable pub takes_form : Mnemonic → Form → Bool
-takes_form mnemonic by_form.Label = branches mnemonic
-takes_form mnemonic form =
-    same_way (is_storing mnemonic) (is_stored form) && is_some (operands_written mnemonic None (Some (sample form)))
+unfoldable pub takes_form : InstructionSet → Mnemonic → Form → Bool
+takes_form isa mnemonic by_form.Label = branches mnemonic
+takes_form isa mnemonic form =
+    same_way (is_storing mnemonic) (is_stored form) && is_some (operands_written isa mnemonic None (Some (sample form)))
 
 abbrev pub all_forms : List Form
 all_forms =
@@ -100,10 +115,10 @@ abbrev pub furthest : List Sort → List (List Sort) → ℕ
 furthest sorts [] = 0
 furthest sorts (shape ∷ shapes) = max (agreeing sorts shape) (furthest sorts shapes)
 
-abbrev pub furthest_by : Mnemonic → List Sort → List Form → ℕ
-furthest_by mnemonic sorts [] = 0
-furthest_by mnemonic sorts (form ∷ forms) =
-    max (if takes_form mnemonic form then furthest sorts (shapes_of form) else 0) (furthest_by mnemonic sorts forms)
+abbrev pub furthest_by : InstructionSet → Mnemonic → List Sort → List Form → ℕ
+furthest_by isa mnemonic sorts [] = 0
+furthest_by isa mnemonic sorts (form ∷ forms) =
+    max (if takes_form isa mnemonic form then max (furthest sorts (shapes_of form)) (furthest sorts (further_shapes isa form)) else 0) (furthest_by isa mnemonic sorts forms)
 
 -- the tokens of a condition
 abbrev pub conditions : List (List Sort)

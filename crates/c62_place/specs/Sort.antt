@@ -1,11 +1,12 @@
 -- What sorts of tokens there are, where the grammar tells them apart (docs/SERIAL_TEXT.md, "Grammar").
-use Rattle.std.specs.Prelude.{Bool, true, false, List, map, codes, if◌then◌else◌}
+use Rattle.std.specs.Prelude.{Bool, true, false, List, map, codes}
 use Rattle.c62_token.specs.declared.kind.Kind.{Kind}
 use Rattle.c62_token.specs.declared.kind.Kind.TheVariants as kind
-use Rattle.c62_token.specs.Kind.{Word, kind_of}
+use Rattle.c62_token.specs.Kind.{Word, kind_of, read_in}
 use Rattle.c62_token.specs.Number.{is_label, spells}
 use Rattle.c62_place.specs.declared.sort.Sort.{Sort}
 use Rattle.c62_place.specs.declared.sort.Sort.TheVariants.{Comma, Star, Open, Close, Not, Plus, Minus, Increment, Decrement, Register, Number, Label, Colon, Other}
+use Rattle.c62_op.specs.declared.set.InstructionSet.{InstructionSet}
 
 -- a name is a label where it may be one, and else it may be a colon
 abbrev pub name_sort : Bool → Bool → Sort
@@ -25,13 +26,13 @@ sort_by kind.Increment name = Increment
 sort_by kind.Decrement name = Decrement
 sort_by (kind.Register reg) name = Register
 sort_by (kind.Number k) name = Number
-sort_by kind.Name name = name
+sort_by _ name = name
 
-unfoldable pub sort_of : Word → Sort
-sort_of word = sort_by (kind_of word) (name_sort (is_label word) (spells (codes ":") word))
+unfoldable pub sort_of : InstructionSet → Word → Sort
+sort_of isa word = sort_by (read_in isa (kind_of word)) (name_sort (is_label word) (spells (codes ":") word))
 
-abbrev pub sorts_of : List Word → List Sort
-sorts_of words = map sort_of words
+abbrev pub sorts_of : InstructionSet → List Word → List Sort
+sorts_of isa words = map (sort_of isa) words
 
 abbrev pub same_sort : Sort → Sort → Bool
 same_sort Comma Comma = true

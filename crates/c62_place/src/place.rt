@@ -6,6 +6,7 @@ ghost use Rattle.c62_place.specs.Place.{IsFirstToken, IsPlace, IsToken, faulty_t
 
 use crate::token::faulty_token;
 use c62_line::{Cause, MOST_LINE};
+use c62_op::InstructionSet;
 use c62_token::Tokens;
 use std::alloc::{AllocError, Global};
 
@@ -89,8 +90,13 @@ fn first_refused(line: &[u8]) -> Option<usize>
 ///
 /// `AllocError` where memory ran out.
 #[tactic(auto, unfolding(crate::specs::Place::IsPlace))]
-pub fn place_of(alloc: Global, fault: Cause, line: &[u8]) -> Result<Place, AllocError>
-    ensures place { IfOk result (λ place. IsPlace fault line.now place) }
+pub fn place_of(
+    isa: InstructionSet,
+    alloc: Global,
+    fault: Cause,
+    line: &[u8],
+) -> Result<Place, AllocError>
+    ensures place { IfOk result (λ place. IsPlace isa fault line.now place) }
     ensures bound { IfOk result (λ place. place.start < 2 ^ 63) }
 {
     match fault {
@@ -104,7 +110,7 @@ pub fn place_of(alloc: Global, fault: Cause, line: &[u8]) -> Result<Place, Alloc
         }),
         Cause::TextTooLong | Cause::Memory => Ok(Place { start: 0, len: 0 }),
         _ => {
-            let before = faulty_token(alloc, fault, Tokens::new(line))?;
+            let before = faulty_token(isa, alloc, fault, Tokens::new(line))?;
             Ok(token_at(line, before))
         }
     }

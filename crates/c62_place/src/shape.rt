@@ -3,12 +3,12 @@
 ghost use Rattle.std.specs.Prelude.{◌≡◌, ◌≤◌, length, map, is_some, Some, None};
 ghost use Rattle.c62_op.specs.Shape.{is_branch};
 ghost use Rattle.c62_line.specs.Line.{is_storing, operands_written};
-ghost use Rattle.c62_place.specs.Shape.{agreeing, all_forms, branches, conditions, furthest, furthest_by, is_stored, pauses, sample, shapes_of, some_register, takes_form};
+ghost use Rattle.c62_place.specs.Shape.{agreeing, all_forms, branches, conditions, furthest, furthest_by, further_shapes, is_stored, pauses, sample, shapes_of, some_register, takes_form};
 
 use crate::sort::Sort::{
     self, Close, Comma, Decrement, Increment, Label, Minus, Not, Number, Open, Plus, Register, Star,
 };
-use c62_insn::{AddressForm, Offset, Op, Operands, Reg, Side};
+use c62_insn::{AddressForm, InstructionSet, Offset, Op, Operands, Reg, Side};
 use c62_line::{Mnemonic, is_storing};
 
 /// A way in which operands are written, of which some mnemonics have one and some several.
@@ -102,6 +102,23 @@ fn shapes_of(form: Form) -> &'static [&'static [Sort]]
     }
 }
 
+/// Those of them that a set has beside: only the full one has an offset behind a base without a sign.
+fn further_shapes(isa: InstructionSet, form: Form) -> &'static [&'static [Sort]]
+    ensures { map (λ shape. shape.now) result.now ≡ further_shapes isa form }
+{
+    match (isa, form) {
+        (InstructionSet::Full, Form::Load) => shapes![
+            [Star, Register, Open, Number, Close, Comma, Register],
+            [Star, Register, Open, Register, Close, Comma, Register]
+        ],
+        (InstructionSet::Full, Form::Store) => shapes![
+            [Register, Comma, Star, Register, Open, Number, Close],
+            [Register, Comma, Star, Register, Open, Register, Close]
+        ],
+        _ => &[],
+    }
+}
+
 fn some_register() -> Reg
     ensures { result ≡ some_register }
 {
@@ -149,13 +166,13 @@ fn branches(mnemonic: Mnemonic) -> bool
 }
 
 /// Whether the mnemonic has operands of this kind and number.
-fn has_kind(mnemonic: Mnemonic, operands: Operands) -> bool
-    ensures { result ≡ is_some (operands_written mnemonic None (Some operands)) }
+fn has_kind(isa: InstructionSet, mnemonic: Mnemonic, operands: Operands) -> bool
+    ensures { result ≡ is_some (operands_written isa mnemonic None (Some operands)) }
 {
     match mnemonic.stands_for(None, operands) {
         Some(read) => {
             let (op, operands) = read;
-            op.has_kind(operands)
+            op.has_kind_in(isa, operands)
         }
         None => false,
     }
@@ -163,13 +180,13 @@ fn has_kind(mnemonic: Mnemonic, operands: Operands) -> bool
 
 /// Whether the mnemonic takes operands of this form, whatever its registers and constants are.
 #[tactic(auto, unfolding(crate::specs::Shape::takes_form))]
-pub fn takes_form(mnemonic: Mnemonic, form: Form) -> bool
-    ensures { result ≡ takes_form mnemonic form }
+pub fn takes_form(isa: InstructionSet, mnemonic: Mnemonic, form: Form) -> bool
+    ensures { result ≡ takes_form isa mnemonic form }
 {
     if form == Form::Label {
         return branches(mnemonic);
     }
-    is_storing(mnemonic) == (form == Form::Store) && has_kind(mnemonic, sample(form))
+    is_storing(mnemonic) == (form == Form::Store) && has_kind(isa, mnemonic, sample(form))
 }
 
 /// How many first tokens are of the same sort.
@@ -201,16 +218,18 @@ pub(crate) fn furthest(sorts: &[Sort], shapes: &[&[Sort]]) -> usize
     }
 }
 
-fn furthest_by(mnemonic: Mnemonic, sorts: &[Sort], forms: &[Form]) -> usize
-    ensures same { result ≡ furthest_by mnemonic sorts.now forms.now }
+fn furthest_by(isa: InstructionSet, mnemonic: Mnemonic, sorts: &[Sort], forms: &[Form]) -> usize
+    ensures same { result ≡ furthest_by isa mnemonic sorts.now forms.now }
     ensures within { result ≤ length sorts.now }
 {
     match forms {
         [] => 0,
         [form, forms @ ..] => {
-            let other = furthest_by(mnemonic, sorts, forms);
-            if takes_form(mnemonic, *form) {
-                furthest(sorts, shapes_of(*form)).max(other)
+            let other = furthest_by(isa, mnemonic, sorts, forms);
+            if takes_form(isa, mnemonic, *form) {
+                furthest(sorts, shapes_of(*form))
+                    .max(furthest(sorts, further_shapes(isa, *form)))
+                    .max(other)
             } else {
                 other
             }
@@ -219,11 +238,11 @@ fn furthest_by(mnemonic: Mnemonic, sorts: &[Sort], forms: &[Form]) -> usize
 }
 
 /// How many of these tokens begin the operands of a form of the mnemonic: with the next one no form goes on.
-pub fn operands_end(mnemonic: Mnemonic, sorts: &[Sort]) -> usize
-    ensures same { result ≡ furthest_by mnemonic sorts.now all_forms }
+pub fn operands_end(isa: InstructionSet, mnemonic: Mnemonic, sorts: &[Sort]) -> usize
+    ensures same { result ≡ furthest_by isa mnemonic sorts.now all_forms }
     ensures within { result ≤ length sorts.now }
 {
-    furthest_by(mnemonic, sorts, &Form::ALL)
+    furthest_by(isa, mnemonic, sorts, &Form::ALL)
 }
 
 /// The first of these tokens with which no condition goes on.

@@ -4,6 +4,7 @@ ghost use Rattle.std.specs.Prelude.{◌≡◌, codes};
 ghost use Rattle.c62_token.specs.Number.{is_label, spells};
 ghost use Rattle.c62_place.specs.Sort.{name_sort, sort_of, same_sort};
 
+use c62_op::InstructionSet;
 use c62_token::number::is_label;
 use c62_token::{Kind, is_mark};
 
@@ -44,10 +45,10 @@ fn name_sort(word: &[u8]) -> Sort
 impl Sort {
     /// What sort of token these bytes are.
     #[tactic(auto, unfolding(crate::specs::Sort::sort_of))]
-    pub fn of(word: &[u8]) -> Sort
-        ensures { result ≡ sort_of word.now }
+    pub fn of(isa: InstructionSet, word: &[u8]) -> Sort
+        ensures { result ≡ sort_of isa word.now }
     {
-        match Kind::of(word) {
+        match Kind::of(word).read_in(isa) {
             Kind::Comma => Sort::Comma,
             Kind::Star => Sort::Star,
             Kind::Open => Sort::Open,
@@ -59,7 +60,7 @@ impl Sort {
             Kind::Decrement => Sort::Decrement,
             Kind::Register(_) => Sort::Register,
             Kind::Number(_) => Sort::Number,
-            Kind::Name => name_sort(word),
+            Kind::Alias(_) | Kind::Suffixed(_) | Kind::Name => name_sort(word),
         }
     }
 

@@ -3,7 +3,7 @@
 ghost use Rattle.std.specs.Prelude.{◌≡◌, ◌≤◌, ◌<◌, ◌+◌, ◌^◌, length, IfOk, IfSome};
 ghost use Rattle.std.specs.Option.{option_copied};
 ghost use Rattle.c62_token.specs.Token.{words_left};
-ghost use Rattle.c62_token.specs.Kind.{kinds_of};
+ghost use Rattle.c62_token.specs.Kind.{kinds_in};
 ghost use Rattle.c62_line.specs.Line.{condition_front, mnemonic_front, unit_behind};
 ghost use Rattle.c62_place.specs.Sort.{sorts_of};
 ghost use Rattle.c62_place.specs.Place.{behind_label, condition_tokens, constant_token, faulty_token, first_colon, first_far, first_number, has_more, instruction_token, is_conditional_pause, is_far, is_number, is_number_alone, label_tokens, mark_length, operand_token, unit_tokens, whole_token, by_unit, by_mnemonic};
@@ -14,30 +14,31 @@ use c62_insn::{Cond, FormFault};
 use c62_line::{
     Cause, Mark, Mnemonic, WrittenUnit, first_condition, first_label, first_mnemonic, unit_behind,
 };
+use c62_op::InstructionSet;
 use c62_token::{Kind, Tokens};
 use std::alloc::{AllocError, Global};
 
 /// What sorts of tokens are left.
-fn sorts_left(alloc: Global, rest: Tokens<'_>) -> Result<Vec<Sort>, AllocError>
-    ensures { IfOk result (λ sorts. sorts.items ≡ sorts_of (words_left rest.entry)) }
+fn sorts_left(isa: InstructionSet, alloc: Global, rest: Tokens<'_>) -> Result<Vec<Sort>, AllocError>
+    ensures { IfOk result (λ sorts. sorts.items ≡ sorts_of isa (words_left rest.entry)) }
 {
     let mut sorts = Vec::new(alloc);
     let mut left = rest;
     while let Some((word, behind)) = left.split() {
-        sorts.push(Sort::of(word))?;
+        sorts.push(Sort::of(isa, word))?;
         left = behind;
     }
     Ok(sorts)
 }
 
-/// What kinds of tokens are left.
-fn kinds_left(alloc: Global, rest: Tokens<'_>) -> Result<Vec<Kind>, AllocError>
-    ensures { IfOk result (λ kinds. kinds.items ≡ kinds_of (words_left rest.entry)) }
+/// What the tokens that are left are to the reader of the set.
+fn kinds_left(isa: InstructionSet, alloc: Global, rest: Tokens<'_>) -> Result<Vec<Kind>, AllocError>
+    ensures { IfOk result (λ kinds. kinds.items ≡ kinds_in isa (words_left rest.entry)) }
 {
     let mut kinds = Vec::new(alloc);
     let mut left = rest;
     while let Some((kind, behind)) = left.split_kind() {
-        kinds.push(kind)?;
+        kinds.push(kind.read_in(isa))?;
         left = behind;
     }
     Ok(kinds)
@@ -149,8 +150,8 @@ fn is_number_alone(sorts: &[Sort]) -> bool
 }
 
 /// The first of the tokens behind the unit with which no operands of the mnemonic go on.
-fn operand_token(mnemonic: Mnemonic, sorts: &[Sort]) -> usize
-    ensures same { result ≡ operand_token mnemonic sorts.now }
+fn operand_token(isa: InstructionSet, mnemonic: Mnemonic, sorts: &[Sort]) -> usize
+    ensures same { result ≡ operand_token isa mnemonic sorts.now }
     ensures within { result ≤ length sorts.now }
 {
     match mnemonic {
@@ -159,7 +160,7 @@ fn operand_token(mnemonic: Mnemonic, sorts: &[Sort]) -> usize
         } else {
             pause_end(sorts)
         },
-        _ => operands_end(mnemonic, sorts),
+        _ => operands_end(isa, mnemonic, sorts),
     }
 }
 
@@ -171,6 +172,7 @@ fn is_conditional_pause(mnemonic: Mnemonic, cond: Option<Cond>) -> bool
 
 /// The token of a fault, where all up to the operands is right: `unit` is how many tokens the unit has.
 fn whole_token(
+    isa: InstructionSet,
     alloc: Global,
     fault: Cause,
     cond: Option<Cond>,
@@ -179,20 +181,20 @@ fn whole_token(
     rest: Tokens<'_>,
 ) -> Result<usize, AllocError>
     requires { unit ≤ 1 }
-    ensures same { IfOk result (λ token. token ≡ whole_token fault cond mnemonic unit (words_left rest.entry)) }
+    ensures same { IfOk result (λ token. token ≡ whole_token isa fault cond mnemonic unit (words_left rest.entry)) }
     ensures few { IfOk result (λ token. token < 2 ^ 63 + 8) }
 {
     let front = condition_tokens(cond) + 1 + unit;
     match fault {
         Cause::Form(FormFault::BadCondition) => Ok(condition_tokens(cond).saturating_sub(2)),
         Cause::Form(FormFault::ConstantRange) => Ok(
-            front + constant_token(&kinds_left(alloc, rest)?),
+            front + constant_token(&kinds_left(isa, alloc, rest)?),
         ),
         Cause::Form(_) => Ok(front - 1),
         Cause::BadOperand => if is_conditional_pause(mnemonic, cond) {
             Ok(0)
         } else {
-            Ok(front + operand_token(mnemonic, &sorts_left(alloc, rest)?))
+            Ok(front + operand_token(isa, mnemonic, &sorts_left(isa, alloc, rest)?))
         },
         _ => Ok(front),
     }
@@ -200,20 +202,28 @@ fn whole_token(
 
 /// The token of a fault behind the label.
 #[tactic(auto, unfolding(crate::specs::Place::instruction_token))]
-fn instruction_token(alloc: Global, fault: Cause, rest: Tokens<'_>) -> Result<usize, AllocError>
-    ensures same { IfOk result (λ token. token ≡ instruction_token fault (words_left rest.entry)) }
+fn instruction_token(
+    isa: InstructionSet,
+    alloc: Global,
+    fault: Cause,
+    rest: Tokens<'_>,
+) -> Result<usize, AllocError>
+    ensures same { IfOk result (λ token. token ≡ instruction_token isa fault (words_left rest.entry)) }
     ensures few { IfOk result (λ token. token < 2 ^ 63 + 8) }
 {
     let Some((cond, rest)) = first_condition(rest) else {
-        return Ok(condition_end(&sorts_left(alloc, rest)?));
+        // A condition has registers by their own names alone.
+        let sorts = sorts_left(InstructionSet::Core, alloc, rest)?;
+        return Ok(condition_end(&sorts));
     };
-    let Some((mnemonic, at_unit)) = first_mnemonic(rest) else {
+    let Some((mnemonic, at_unit)) = first_mnemonic(isa, rest) else {
         return Ok(condition_tokens(cond));
     };
     let Some((written, rest)) = unit_behind(mnemonic, at_unit) else {
         return Ok(condition_tokens(cond) + 1);
     };
     whole_token(
+        isa,
         alloc,
         fault,
         cond,
@@ -223,14 +233,19 @@ fn instruction_token(alloc: Global, fault: Cause, rest: Tokens<'_>) -> Result<us
     )
 }
 
-fn behind_label(alloc: Global, fault: Cause, rest: Tokens<'_>) -> Result<usize, AllocError>
-    ensures same { IfOk result (λ token. token ≡ behind_label fault (words_left rest.entry)) }
+fn behind_label(
+    isa: InstructionSet,
+    alloc: Global,
+    fault: Cause,
+    rest: Tokens<'_>,
+) -> Result<usize, AllocError>
+    ensures same { IfOk result (λ token. token ≡ behind_label isa fault (words_left rest.entry)) }
     ensures few { IfOk result (λ token. token < 2 ^ 63 + 8) }
 {
     match fault {
-        Cause::BadLabel => Ok(first_colon(&sorts_left(alloc, rest)?).unwrap_or(0)),
+        Cause::BadLabel => Ok(first_colon(&sorts_left(isa, alloc, rest)?).unwrap_or(0)),
         Cause::Directive | Cause::TooManyInstructions => Ok(0),
-        _ => instruction_token(alloc, fault, rest),
+        _ => instruction_token(isa, alloc, fault, rest),
     }
 }
 
@@ -242,17 +257,18 @@ fn behind_label(alloc: Global, fault: Cause, rest: Tokens<'_>) -> Result<usize, 
 /// `AllocError` where memory ran out.
 #[tactic(auto, unfolding(crate::specs::Place::faulty_token))]
 pub(crate) fn faulty_token(
+    isa: InstructionSet,
     alloc: Global,
     fault: Cause,
     line: Tokens<'_>,
 ) -> Result<usize, AllocError>
-    ensures { IfOk result (λ token. token ≡ faulty_token fault (words_left line.entry)) }
+    ensures { IfOk result (λ token. token ≡ faulty_token isa fault (words_left line.entry)) }
 {
     match fault {
         Cause::ParallelBar | Cause::DuplicateLabel | Cause::TooManyBlocks => Ok(0),
         _ => {
             let (label, rest) = first_label(line);
-            Ok(label_tokens(label) + behind_label(alloc, fault, rest)?)
+            Ok(label_tokens(label) + behind_label(isa, alloc, fault, rest)?)
         }
     }
 }

@@ -20,30 +20,31 @@ use Rattle.c62_program.specs.Program.{is_made}
 use Rattle.c62_files.specs.Writing.{IsReplaced}
 use Rattle.c62_teach.specs.Words.{plain_words}
 use Rattle.c62_program.proofs.Failing.{memory_with}
+use Rattle.c62_op.specs.declared.set.InstructionSet.{InstructionSet}
 
 pub not_both : (b : Bool) → b ≡ false → b ≡ true → ⊥
 not_both b is_false is_true = cc
 
 -- ---- an answer that goes to a file
 
-pub made_none : (holds : Holding) (words : List Text) (source : From) (target : Text)
+pub made_none : (isa : InstructionSet) (holds : Holding) (words : List Text) (source : From) (target : Text)
     (input left errors told : Option (List ℕ)) (answer : List ℕ) (status : ℕ)
     → is_made words status ≡ false
-    → RunsWords holds words source (streams input (Some []) errors) (streams left (Some answer) told) status
-    → RunsTo holds holds words source target (streams input None errors) (streams left None told) status
-made_none holds words source target input left errors told answer status is_false run = record {
+    → RunsWords isa holds words source (streams input (Some []) errors) (streams left (Some answer) told) status
+    → RunsTo isa holds holds words source target (streams input None errors) (streams left None told) status
+made_none isa holds words source target input left errors told answer status is_false run = record {
   answer = answer;
   runs = run;
   made = λ is_true. absurd (not_both (is_made words status) is_false is_true);
   kept = λ e. refl;
 }
 
-pub made_one : (before after : Holding) (words : List Text) (source : From) (target : Text)
+pub made_one : (isa : InstructionSet) (before after : Holding) (words : List Text) (source : From) (target : Text)
     (input left errors told : Option (List ℕ)) (answer : List ℕ) (status : ℕ)
     → is_made words status ≡ true → IsReplaced before target answer after
-    → RunsWords before words source (streams input (Some []) errors) (streams left (Some answer) told) status
-    → RunsTo before after words source target (streams input None errors) (streams left None told) status
-made_one before after words source target input left errors told answer status is_true holds run = record {
+    → RunsWords isa before words source (streams input (Some []) errors) (streams left (Some answer) told) status
+    → RunsTo isa before after words source target (streams input None errors) (streams left None told) status
+made_one isa before after words source target input left errors told answer status is_true holds run = record {
   answer = answer;
   runs = run;
   made = λ e. holds;
@@ -61,43 +62,49 @@ is_late name Memory with is = cc
 
 -- ---- where an answer goes
 
-pub target_to : (before after : Holding) (words : List Text) (source : From) (target : Bor Text)
+pub target_to : (isa : InstructionSet) (before after : Holding) (words : List Text) (source : From) (target : Bor Text)
     (input left output errors told : Option (List ℕ)) (status : ℕ)
-    → RunsTo before after words source target.now (streams input None errors) (streams left None told) status
-    → RunsTarget before after words source (Some target) (streams input output errors) (streams left output told) status
-target_to before after words source target input left output errors told status run =
+    → RunsTo isa before after words source target.now (streams input None errors) (streams left None told) status
+    → RunsTarget isa before after words source (Some target) (streams input output errors)
+    (streams left output told) status
+target_to isa before after words source target input left output errors told status run =
     (record { answer = run.answer; runs = run.runs; made = run.made; kept = run.kept }, Keeps-refl output)
 
 -- ---- a call
 
 -- no file is named that memory goes to
-pub called_plain : (before after : Holding) (call : Call) (words : List Text) (old new : Streams) (status : ℕ)
+pub called_plain : (isa : InstructionSet) (before after : Holding) (call : Call) (words : List Text) (old new : Streams)
+    (status : ℕ)
     → Expands before (map text_piece call.words.items) words
-    → call.dumps.items ≡ [] → RunsTarget before after words (text_source call.source) call.target old new status
-    → RunsCall before after call old new status
-called_plain before after call words old new status are none run = record {
+    → call.dumps.items ≡ [] → RunsTarget isa before after words (text_source call.source) call.target old new status
+    → RunsCall isa before after call old new status
+called_plain isa before after call words old new status are none run = record {
   words = words;
   expanded = are;
-  runs = subst (λ (names : List (Bor Text)). RunsNaming names before after words call old new status) (sym none) run;
+  runs = subst (λ (names : List (Bor Text)). RunsNaming isa names before after words call old new status)
+      (sym none) run;
 }
 
 -- some are
-named_runs : (names : List (Bor Text)) (before after : Holding) (words : List Text) (call : Call) (counts : List ℕ)
+named_runs : (isa : InstructionSet) (names : List (Bor Text)) (before after : Holding) (words : List Text) (call : Call)
+    (counts : List ℕ)
     (old new : Streams) (status : ℕ) → 1 ≤ length names
-    → AreCountsFor (length names) (plain_words words) counts → RunsDumping before after words call counts old new status
-    → RunsNaming names before after words call old new status
-named_runs [] before after words call counts old new status many counted run = absurd (omega (arith, many))
-named_runs (name ∷ names) before after words call counts old new status many counted run = (counts, counted, run)
+    → AreCountsFor (length names) (plain_words words) counts
+    → RunsDumping isa before after words call counts old new status
+    → RunsNaming isa names before after words call old new status
+named_runs isa [] before after words call counts old new status many counted run = absurd (omega (arith, many))
+named_runs isa (name ∷ names) before after words call counts old new status many counted run = (counts, counted, run)
 
-pub called_dumping : (before after : Holding) (call : Call) (words : List Text) (counts : List ℕ) (old new : Streams)
+pub called_dumping : (isa : InstructionSet) (before after : Holding) (call : Call) (words : List Text) (counts : List ℕ)
+    (old new : Streams)
     (status : ℕ)
     → Expands before (map text_piece call.words.items) words → 1 ≤ length call.dumps.items
     → AreCountsFor (length call.dumps.items) (plain_words words) counts
-    → RunsDumping before after words call counts old new status → RunsCall before after call old new status
-called_dumping before after call words counts old new status are many counted run = record {
+    → RunsDumping isa before after words call counts old new status → RunsCall isa before after call old new status
+called_dumping isa before after call words counts old new status are many counted run = record {
   words = words;
   expanded = are;
-  runs = named_runs call.dumps.items before after words call counts old new status many counted run;
+  runs = named_runs isa call.dumps.items before after words call counts old new status many counted run;
 }
 
 -- ---- trouble

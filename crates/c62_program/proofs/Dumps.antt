@@ -23,6 +23,7 @@ use Rattle.c62_program.specs.Trouble.{IsTroubleWriting, IsTroubleWritingTo, is_e
 use Rattle.c62_program.specs.Program.{AreCounts, AreCountsFor, HasBegun, IsDelivered}
 use Rattle.c62_program.specs.Program.{RunsDumping, RunsWords, is_made}
 use Rattle.c62_program.proofs.Calling.{is_late, not_both}
+use Rattle.c62_op.specs.declared.set.InstructionSet.{InstructionSet}
 
 pub on_err : {T E P : Type 0} (r : Result T E) → P → OnErr r P
 on_err (Ok value) p = tt
@@ -119,13 +120,13 @@ has_written before between after names counts bytes written kept =
 
 -- ---- runs
 
-pub dumped_none : (holds : Holding) (words : List Text) (call : Call) (counts answer : List ℕ)
+pub dumped_none : (isa : InstructionSet) (holds : Holding) (words : List Text) (call : Call) (counts answer : List ℕ)
     (input left output errors told : Option (List ℕ)) (done : ℕ)
     → is_made words done ≡ false
-    → RunsWords holds words (text_source call.source) (streams input (Some []) errors)
+    → RunsWords isa holds words (text_source call.source) (streams input (Some []) errors)
     (streams left (Some answer) told) done
-    → RunsDumping holds holds words call counts (streams input output errors) (streams left output told) done
-dumped_none holds words call counts answer input left output errors told done is_false run = record {
+    → RunsDumping isa holds holds words call counts (streams input output errors) (streams left output told) done
+dumped_none isa holds words call counts answer input left output errors told done is_false run = record {
   answer = answer;
   done = done;
   told = told;
@@ -134,16 +135,17 @@ dumped_none holds words call counts answer input left output errors told done is
   none = λ e. record { kept = refl; ends = refl; unwritten = Keeps-refl output; silent = Keeps-refl told };
 }
 
-pub dumped_all : (before between after : Holding) (words : List Text) (call : Call)
+pub dumped_all : (isa : InstructionSet) (before between after : Holding) (words : List Text) (call : Call)
     (counts answer report memory : List ℕ)
     (input left output written errors told said : Option (List ℕ)) (done status : ℕ) → is_made words done ≡ true
-    → RunsWords before words (text_source call.source) (streams input (Some []) errors)
+    → RunsWords isa before words (text_source call.source) (streams input (Some []) errors)
     (streams left (Some answer) told) done
     → report ≡ report_in counts answer → memory ≡ dumped_in counts answer
     → AreWritten before (files_of (texts call.dumps.items) counts memory) between
     → IsDelivered between after call.target report done output written told said status
-    → RunsDumping before after words call counts (streams input output errors) (streams left written said) status
-dumped_all before between after words call counts answer report memory input left output written errors told said done
+    → RunsDumping isa before after words call counts (streams input output errors) (streams left written said) status
+dumped_all isa before between after words call counts answer report memory input left output written errors told said
+    done
     status is_true run reports remembers files delivered =
     record {
       answer = answer;

@@ -25,6 +25,7 @@ use Rattle.c62_program.specs.Trouble.{Called, Expanding, HasCallTrouble, IsSaid,
 use Rattle.c62_program.specs.Trouble.{IsTroubleWithSource, Loose, Mistaken, Running, Says, call_message, is_early}
 use Rattle.c62_program.specs.Trouble.{load_message, loose_message, of_reading, of_words, status_of}
 use Rattle.c62_program.specs.Program.{EndsCall, Failed, HasBegun, IsFailure}
+use Rattle.c62_op.specs.declared.set.InstructionSet.{InstructionSet}
 
 -- ---- memory
 
@@ -130,11 +131,11 @@ called before after words call trouble old new told status is has ends silent sa
   kept = subst (HasBegun before after) is.dumped kept;
 }
 
-pub ends_failed : (before after : Holding) (call : Call) (trouble : Trouble) (old new : Streams)
+pub ends_failed : (isa : InstructionSet) (before after : Holding) (call : Call) (trouble : Trouble) (old new : Streams)
     (told : Option (List ℕ)) (status : ℕ)
     → HasCallTrouble before call trouble → status ≡ status_of trouble
     → (is_early trouble ≡ true → Keeps old.errors told) → Says Tells trouble told new.errors
     → Keeps old.output new.output → HasBegun before after (texts call.dumps.items)
-    → EndsCall before after call old new status
-ends_failed before after call trouble old new told status has ends silent says unwritten kept =
+    → EndsCall isa before after call old new status
+ends_failed isa before after call trouble old new told status has ends silent says unwritten kept =
     Failed trouble has ends (is_said before call trouble old.errors told new.errors has silent says) unwritten kept

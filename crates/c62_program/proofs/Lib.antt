@@ -4,3 +4,4 @@ pub mod Writing
 pub mod Calling
 pub mod Dumps
 pub mod Traced
+pub mod BySet

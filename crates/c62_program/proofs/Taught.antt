@@ -23,33 +23,38 @@ use Rattle.c62_program.specs.Program.{WithMore, is_told, RunsFrom, RunsLint, Run
 use Rattle.c62_program.specs.Teaching.{AreTold, IsLintRun, RunsMore, TeachesWanted, behind_text, behind_words}
 use Rattle.c62_program.specs.Teaching.{listing_name, status_with, text_name}
 use Rattle.c62_program.specs.declared.page.TheConstants.{LINT}
+use Rattle.c62_op.specs.declared.set.InstructionSet.{InstructionSet}
 
 -- ---- more is told
 
-pub ran_more : {E : Type 0} (result : Result (Unit {0}) E) (words : List Text) (more : ℕ → List ℕ) (old : Streams)
+pub ran_more : (isa : InstructionSet) {E : Type 0} (result : Result (Unit {0}) E) (words : List Text)
+    (more : ℕ → List ℕ) (old : Streams)
     (input output told errors : Option (List ℕ)) (status : ℕ)
-    → IsRun words old (streams input output told) status → told_of result told errors (more status)
-    → RunsMore words more old (streams input output errors) status
-ran_more result words more old input output told errors status run says =
+    → IsRun isa words old (streams input output told) status → told_of result told errors (more status)
+    → RunsMore isa words more old (streams input output errors) status
+ran_more isa result words more old input output told errors status run says =
     record { told = told; runs = run; behind = told_tells result told errors (more status) says }
 
 -- ---- lint
 
-pub lint_refused : {E : Type 0} (result : Result (Unit {0}) E) (holds : Holding) (words : List Text) (source : From)
+pub lint_refused : (isa : InstructionSet) {E : Type 0} (result : Result (Unit {0}) E) (holds : Holding)
+    (words : List Text) (source : From)
     (input output errors told : Option (List ℕ))
     → linting_of words ≡ None → told_of result errors told LINT.now
-    → RunsLint holds words source (streams input output errors) (streams input output told) 2
-lint_refused result holds words source input output errors told none says =
+    → RunsLint isa holds words source (streams input output errors) (streams input output told) 2
+lint_refused isa result holds words source input output errors told none says =
     Refused none refl (told_tells result errors told LINT.now says) (Keeps-refl output) (Keeps-refl input)
 
-pub lint_found : (holds : Holding) (words : List Text) (source : From) (old new : Streams) (status : ℕ)
+pub lint_found : (isa : InstructionSet) (holds : Holding) (words : List Text) (source : From) (old new : Streams)
+    (status : ℕ)
     (linting : Linting) (bytes lines : List ℕ) (faulty : Bool)
     (name : Text) → name ≡ text_name source → linting_of words ≡ Some linting → IsGiven holds old.input source bytes
-    → IsLinted linting name bytes lines faulty
+    → IsLinted isa linting name bytes lines faulty
     → IsLintRun lines faulty old.output new.output old.errors new.errors status
-    → RunsLint holds words source old new status
-lint_found holds words source old new status linting bytes lines faulty name is some given found run =
-    Lints linting some bytes given lines faulty (subst (λ (n : Text). IsLinted linting n bytes lines faulty) is found)
+    → RunsLint isa holds words source old new status
+lint_found isa holds words source old new status linting bytes lines faulty name is some given found run =
+    Lints linting some bytes given lines faulty
+    (subst (λ (n : Text). IsLinted isa linting n bytes lines faulty) is found)
     run
 
 -- ---- what words ask for
@@ -80,43 +85,46 @@ refused_words wanted words error is = record
 
 -- ---- words of which more is told
 
-taught_so : (wanted : Bool) (ask : Ask) (name listing text more : List ℕ)
-    → TeachesWanted wanted ask name listing text more
-    → TeachesWanted wanted (Document ask) name listing text more
-taught_so true ask name listing text more is = is
-taught_so false ask name listing text more is = is
+taught_so : (isa : InstructionSet) (wanted : Bool) (ask : Ask) (name listing text more : List ℕ)
+    → TeachesWanted isa wanted ask name listing text more
+    → TeachesWanted isa wanted (Document ask) name listing text more
+taught_so isa true ask name listing text more is = is
+taught_so isa false ask name listing text more is = is
 
 -- the same is told of a text, whatever its answer is told in
-pub told_so : (rendering : Rendering) (wanted : Bool) (ask : Ask) (name listing text refused apart faulted : List ℕ)
-    (meets : Bool) → AreTold wanted ask name listing text refused apart faulted meets
-    → AreTold wanted (rendered rendering ask) name listing text refused apart faulted meets
-told_so InText wanted ask name listing text refused apart faulted meets are = are
-told_so InJson wanted ask name listing text refused apart faulted meets are = record {
-  explains = taught_so wanted ask name listing text refused are.explains;
+pub told_so : (isa : InstructionSet) (rendering : Rendering) (wanted : Bool) (ask : Ask)
+    (name listing text refused apart faulted : List ℕ)
+    (meets : Bool) → AreTold isa wanted ask name listing text refused apart faulted meets
+    → AreTold isa wanted (rendered rendering ask) name listing text refused apart faulted meets
+told_so isa InText wanted ask name listing text refused apart faulted meets are = are
+told_so isa InJson wanted ask name listing text refused apart faulted meets are = record {
+  explains = taught_so isa wanted ask name listing text refused are.explains;
   watches = are.watches;
   faults = are.faults;
   which = are.which;
   both = are.both;
 }
 
-pub nothing_told : (holds : Holding) (words plain : List Text) (source : From) (old new : Streams) (explained : Bool)
+pub nothing_told : (isa : InstructionSet) (holds : Holding) (words plain : List Text) (source : From)
+    (old new : Streams) (explained : Bool)
     (more : List ℕ) (status : ℕ)
     → explained ≡ is_explained words → plain ≡ plain_words words
-    → IsRefusedFor explained plain more → RunsMore plain (behind_words more) old new status
-    → RunsTold holds words source old new status
-nothing_told holds words plain source old new explained more status wanted is refused run =
+    → IsRefusedFor explained plain more → RunsMore isa plain (behind_words more) old new status
+    → RunsTold isa holds words source old new status
+nothing_told isa holds words plain source old new explained more status wanted is refused run =
     OnNothing more (rw (← wanted, ← is) refused) (rw (← is) run)
 
-pub bytes_told : (holds : Holding) (words plain : List Text) (source : From) (old new : Streams) (explained : Bool)
+pub bytes_told : (isa : InstructionSet) (holds : Holding) (words plain : List Text) (source : From) (old new : Streams)
+    (explained : Bool)
     (bytes refused apart faulted : List ℕ) (meets : Bool) (left : Option (List ℕ)) (status : ℕ) (ask : Ask)
     (name listing : Text)
     → explained ≡ is_explained words → plain ≡ plain_words words → name ≡ text_name source
     → listing ≡ listing_name source → asked plain ≡ Some ask → IsGiven holds old.input source bytes
-    → AreTold explained ask name listing bytes refused apart faulted meets
-    → RunsMore plain (behind_text refused apart faulted) (streams (Some bytes) old.output old.errors)
+    → AreTold isa explained ask name listing bytes refused apart faulted meets
+    → RunsMore isa plain (behind_text refused apart faulted) (streams (Some bytes) old.output old.errors)
     (streams left new.output new.errors) status
-    → RunsTold holds words source old new (status_with meets status)
-bytes_told holds words plain source old new explained bytes refused apart faulted meets left status ask name listing
+    → RunsTold isa holds words source old new (status_with meets status)
+bytes_told isa holds words plain source old new explained bytes refused apart faulted meets left status ask name listing
     wanted is named listed asks given told run =
     OnBytes bytes left given refused apart faulted meets status
     (rw (← wanted, ← is, asks) (rw (named, listed) at told))
@@ -124,16 +132,20 @@ bytes_told holds words plain source old new explained bytes refused apart faulte
 
 -- ---- words
 
-pub words_lint : (holds : Holding) (words : List Text) (source : From) (old new : Streams) (status : ℕ)
+pub words_lint : (isa : InstructionSet) (holds : Holding) (words : List Text) (source : From) (old new : Streams)
+    (status : ℕ)
     → is_lint words ≡ true
-    → RunsLint holds words source old new status → RunsWords holds words source old new status
-words_lint holds words source old new status is run = Lint is run
+    → RunsLint isa holds words source old new status → RunsWords isa holds words source old new status
+words_lint isa holds words source old new status is run = Lint is run
 
-pub words_told : (holds : Holding) (words : List Text) (source : From) (old new : Streams) (status : ℕ)
-    → is_told words ≡ true → RunsTold holds words source old new status → RunsWords holds words source old new status
-words_told holds words source old new status is run = WithMore is run
+pub words_told : (isa : InstructionSet) (holds : Holding) (words : List Text) (source : From) (old new : Streams)
+    (status : ℕ)
+    → is_told words ≡ true → RunsTold isa holds words source old new status
+    → RunsWords isa holds words source old new status
+words_told isa holds words source old new status is run = WithMore is run
 
-pub words_plain : (holds : Holding) (words : List Text) (source : From) (old new : Streams) (status : ℕ)
-    → is_lint words ≡ false → is_told words ≡ false → RunsFrom holds words source old new status
-    → RunsWords holds words source old new status
-words_plain holds words source old new status lint told run = Plain lint told run
+pub words_plain : (isa : InstructionSet) (holds : Holding) (words : List Text) (source : From) (old new : Streams)
+    (status : ℕ)
+    → is_lint words ≡ false → is_told words ≡ false → RunsFrom isa holds words source old new status
+    → RunsWords isa holds words source old new status
+words_plain isa holds words source old new status lint told run = Plain lint told run

@@ -32,6 +32,7 @@ use Rattle.c62_program.specs.Trouble.{Says, call_message, status_of}
 use Rattle.c62_program.specs.Tracing.{Called, DrawsToFile, EndsFile, EndsOn, EndsRead, EndsSheet, FindsCommand}
 use Rattle.c62_program.specs.Tracing.{IsCallOn, IsTextTraced, IsTracedRun, IsTracedTo, LeavesErrors, LeavesFiles}
 use Rattle.c62_program.specs.Tracing.{Misnamed, NoneCalled, RunsTraced, Shown, Untraced, read_source}
+use Rattle.c62_op.specs.declared.set.InstructionSet.{InstructionSet}
 
 -- ---- files
 
@@ -51,13 +52,14 @@ replaced known before after name bytes blank sheet blanks draws done knows =
     is None knows held = tt
     is (Some all) knows held = same sheet all (draws (blanks knows)) held
 
-pub draws_to_file : (known : Bool) (before after : Holding) (drawn : Drawn) (window : Window) (request : Request)
+pub draws_to_file : (isa : InstructionSet) (known : Bool) (before after : Holding) (drawn : Drawn) (window : Window)
+    (request : Request)
     (text : List ℕ) (name : Text) (traced : Traced) (blank sheet : Option (List ℕ))
-    → (known ≡ true → blank ≡ Some []) → DrawsRequest drawn window request text traced blank sheet
+    → (known ≡ true → blank ≡ Some []) → DrawsRequest isa drawn window request text traced blank sheet
     → EndsSheet known before after name sheet traced
-    → DrawsToFile before after drawn window request text name
-draws_to_file known before after drawn window request text name traced blank sheet blanks draws done =
-    let drawn_on = request_blank drawn window request text traced blank sheet draws in
+    → DrawsToFile isa before after drawn window request text name
+draws_to_file isa known before after drawn window request text name traced blank sheet blanks draws done =
+    let drawn_on = request_blank isa drawn window request text traced blank sheet draws in
     record {
       traced = traced;
       bytes = drawn_on.0;
@@ -72,25 +74,28 @@ draws_to_file known before after drawn window request text name traced blank she
     ends Cut done bytes draws = absurd done
 
 -- the same of a sheet that was begun, where the file may not be written
-pub file_drawn : {E : Type 0} (result : Result (Unit {0}) E) (known : Bool) (before begun after : Holding)
+pub file_drawn : (isa : InstructionSet) {E : Type 0} (result : Result (Unit {0}) E) (known : Bool)
+    (before begun after : Holding)
     (drawn : Drawn) (window : Window) (request : Request) (text : List ℕ) (name : Text) (traced : Traced)
     (blank sheet : Option (List ℕ)) → begun ≡ before → (known ≡ true → blank ≡ Some [])
-    → DrawsRequest drawn window request text traced blank sheet
+    → DrawsRequest isa drawn window request text traced blank sheet
     → IfOk result (λ _. EndsSheet known begun after name sheet traced)
-    → IfOk result (λ _. DrawsToFile before after drawn window request text name)
-file_drawn (Ok done) known before begun after drawn window request text name traced blank sheet same blanks draws ends =
-    draws_to_file known before after drawn window request text name traced blank sheet blanks draws
+    → IfOk result (λ _. DrawsToFile isa before after drawn window request text name)
+file_drawn isa (Ok done) known before begun after drawn window request text name traced blank sheet same blanks draws
+    ends =
+    draws_to_file isa known before after drawn window request text name traced blank sheet blanks draws
     (subst (λ (m : Holding). EndsSheet known m after name sheet traced) same ends)
-file_drawn (Err error) known before begun after drawn window request text name traced blank sheet same blanks draws
+file_drawn isa (Err error) known before begun after drawn window request text name traced blank sheet same blanks draws
     ends = tt
 
 -- a trace was written, and its waveform may have failed
-pub leaves_files : (before mid after : Holding) (window : Window) (request : Request) (text : List ℕ) (to : Option To)
-    (old new : Option (List ℕ)) → IsTracedTo before mid window request text to old new → after ≡ mid
+pub leaves_files : (isa : InstructionSet) (before mid after : Holding) (window : Window) (request : Request)
+    (text : List ℕ) (to : Option To)
+    (old new : Option (List ℕ)) → IsTracedTo isa before mid window request text to old new → after ≡ mid
     → LeavesFiles before after to
-leaves_files before mid after window request text None old new traced same = same ∙ traced.0
-leaves_files before mid after window request text (Some Errors) old new traced same = same ∙ traced.0
-leaves_files before mid after window request text (Some (ToFile name)) old new traced same =
+leaves_files isa before mid after window request text None old new traced same = same ∙ traced.0
+leaves_files isa before mid after window request text (Some Errors) old new traced same = same ∙ traced.0
+leaves_files isa before mid after window request text (Some (ToFile name)) old new traced same =
     subst (λ (m : Holding). LeavesFiles before m (Some (ToFile name))) (sym same)
     (left traced.0.traced traced.0.bytes traced.0.ends)
   where
@@ -100,11 +105,12 @@ leaves_files before mid after window request text (Some (ToFile name)) old new t
     left Whole bytes ends other differs = ends.1 other differs
     left Cut bytes ends other differs = absurd ends
 
-pub leaves_errors : (before mid : Holding) (window : Window) (request : Request) (text : List ℕ) (to : Option To)
-    (old new : Option (List ℕ)) → IsTracedTo before mid window request text to old new → LeavesErrors to old new
-leaves_errors before mid window request text None old new traced = traced.1
-leaves_errors before mid window request text (Some Errors) old new traced = tt
-leaves_errors before mid window request text (Some (ToFile name)) old new traced = traced.1
+pub leaves_errors : (isa : InstructionSet) (before mid : Holding) (window : Window) (request : Request) (text : List ℕ)
+    (to : Option To)
+    (old new : Option (List ℕ)) → IsTracedTo isa before mid window request text to old new → LeavesErrors to old new
+leaves_errors isa before mid window request text None old new traced = traced.1
+leaves_errors isa before mid window request text (Some Errors) old new traced = tt
+leaves_errors isa before mid window request text (Some (ToFile name)) old new traced = traced.1
 
 -- nothing was written yet
 pub same_files : (before after : Holding) (to : Option To) → after ≡ before → LeavesFiles before after to
@@ -124,71 +130,78 @@ pub refused : (words : List Text) (error : CommandError) → error ≢ NoRoom �
 refused words error known refusal = record { error = error; known = known; refused = refusal }
 
 -- a call comes to its end behind its trace
-pub traced : (before mid after : Holding) (told : Told) (call : Call) (words : List Text) (text : Option (List ℕ))
+pub traced : (isa : InstructionSet) (before mid after : Holding) (told : Told) (call : Call) (words : List Text)
+    (text : Option (List ℕ))
     (input left rest output out errors errs ends : Option (List ℕ)) (status : ℕ)
     → Expands before (map text_piece call.words.items) words
-    → IsTextTraced before mid told words (text_source call.source) input left text errors errs
-    → EndsRead mid after call words text (streams left output errs) (streams rest out ends) status
-    → RunsTraced before after told call (streams input output errors) (streams rest out ends) status
-traced before mid after told call words None input left rest output out errors errs ends status are none over =
+    → IsTextTraced isa before mid told words (text_source call.source) input left text errors errs
+    → EndsRead isa mid after call words text (streams left output errs) (streams rest out ends) status
+    → RunsTraced isa before after told call (streams input output errors) (streams rest out ends) status
+traced isa before mid after told call words None input left rest output out errors errs ends status are none over =
     Untraced words are none.0
-    (subst (λ (m : Holding). EndsOn m after call words (text_source call.source) (streams input output errors)
+    (subst (λ (m : Holding). EndsOn isa m after call words (text_source call.source) (streams input output errors)
     (streams rest out ends) status) none.1
-    (subst (λ l. EndsOn mid after call words (text_source call.source) (streams l output errors)
+    (subst (λ l. EndsOn isa mid after call words (text_source call.source) (streams l output errors)
     (streams rest out ends) status) none.2
-    (subst (λ e. EndsOn mid after call words (text_source call.source) (streams left output e)
+    (subst (λ e. EndsOn isa mid after call words (text_source call.source) (streams left output e)
     (streams rest out ends) status) none.3 over)))
-traced before mid after told call words (Some text) input left rest output out errors errs ends status are some over =
+traced isa before mid after told call words
+    (Some text) input left rest output out errors errs ends status are some over =
     Shown words are some.0 some.1 text some.2 mid errs over.0 some.3 over.1
 
 -- a call of these words on a source comes to its end, or there is no room for it
-pub ends : (before after : Holding) (call made : Call) (words : List Text) (source : From) (old new : Streams)
-    (status : ℕ) → IsCallOn call words source made → EndsCall before after made old new status
-    → EndsOn before after call words source old new status
-ends before after call made words source old new status is over = inl (made, is, over)
+pub ends : (isa : InstructionSet) (before after : Holding) (call made : Call) (words : List Text) (source : From)
+    (old new : Streams)
+    (status : ℕ) → IsCallOn call words source made → EndsCall isa before after made old new status
+    → EndsOn isa before after call words source old new status
+ends isa before after call made words source old new status is over = inl (made, is, over)
 
-pub short : (before : Holding) (call : Call) (words : List Text) (source : From)
+pub short : (isa : InstructionSet) (before : Holding) (call : Call) (words : List Text) (source : From)
     (input output errors told : Option (List ℕ)) (status : ℕ)
     → status ≡ status_of Memory → Says Tells Memory errors told
-    → EndsOn before before call words source (streams input output errors) (streams input output told) status
-short before call words source input output errors told status is says = inr (is, says, Keeps-refl output, refl)
+    → EndsOn isa before before call words source (streams input output errors) (streams input output told) status
+short isa before call words source input output errors told status is says = inr (is, says, Keeps-refl output, refl)
 
 -- a text that was read, or what the source gives
-pub unread : (before after : Holding) (call : Call) (words : List Text) (text : Option (List ℕ)) (old new : Streams)
-    (status : ℕ) → text ≡ None → EndsOn before after call words (text_source call.source) old new status
-    → EndsRead before after call words text old new status
-unread before after call words text old new status none over =
-    subst (λ (t : Option (List ℕ)). EndsRead before after call words t old new status) (sym none) over
+pub unread : (isa : InstructionSet) (before after : Holding) (call : Call) (words : List Text) (text : Option (List ℕ))
+    (old new : Streams)
+    (status : ℕ) → text ≡ None → EndsOn isa before after call words (text_source call.source) old new status
+    → EndsRead isa before after call words text old new status
+unread isa before after call words text old new status none over =
+    subst (λ (t : Option (List ℕ)). EndsRead isa before after call words t old new status) (sym none) over
 
-pub read : (before after : Holding) (call : Call) (words : List Text) (text : Option (List ℕ)) (bytes : List ℕ)
+pub read : (isa : InstructionSet) (before after : Holding) (call : Call) (words : List Text) (text : Option (List ℕ))
+    (bytes : List ℕ)
     (source : From) (input output errors left out told : Option (List ℕ)) (status : ℕ)
     → text ≡ Some bytes → source ≡ read_source (text_source call.source)
-    → EndsOn before after call words source (streams (Some bytes) output errors) (streams left out told) status
-    → EndsRead before after call words text (streams input output errors) (streams input out told) status
-read before after call words text bytes source input output errors left out told status some is over =
-    subst (λ (t : Option (List ℕ)). EndsRead before after call words t (streams input output errors)
+    → EndsOn isa before after call words source (streams (Some bytes) output errors) (streams left out told) status
+    → EndsRead isa before after call words text (streams input output errors) (streams input out told) status
+read isa before after call words text bytes source input output errors left out told status some is over =
+    subst (λ (t : Option (List ℕ)). EndsRead isa before after call words t (streams input output errors)
     (streams input out told) status) (sym some) (
       left,
-      subst (λ (s : From). EndsOn before after call words s (streams (Some bytes) output errors)
+      subst (λ (s : From). EndsOn isa before after call words s (streams (Some bytes) output errors)
           (streams left out told) status) is over,
     )
 
 -- words that ask for a trace come to no call
-pub misnamed : (before : Holding) (words : List Text) (input output old new : Option (List ℕ)) (status : ℕ)
+pub misnamed : (isa : InstructionSet) (before : Holding) (words : List Text) (input output old new : Option (List ℕ))
+    (status : ℕ)
     → tracing_of words ≡ None → status ≡ 2 → Tells old new TRACE.now
-    → IsTracedRun before before words (streams input output old) (streams input output new) status
-misnamed before words input output old new status none is says = Misnamed none is says (Keeps-refl output) refl
+    → IsTracedRun isa before before words (streams input output old) (streams input output new) status
+misnamed isa before words input output old new status none is says = Misnamed none is says (Keeps-refl output) refl
 
-pub uncalled : (before : Holding) (words others : List Text) (error : CallError)
+pub uncalled : (isa : InstructionSet) (before : Holding) (words others : List Text) (error : CallError)
     (input output old new : Option (List ℕ)) (status : ℕ) → others ≡ other_words words → IsMistake others error
     → status ≡ status_of (NoCall error) → Tells old new (call_message error)
-    → IsTracedRun before before words (streams input output old) (streams input output new) status
-uncalled before words others error input output old new status same is ends says =
+    → IsTracedRun isa before before words (streams input output old) (streams input output new) status
+uncalled isa before words others error input output old new status same is ends says =
     NoneCalled error (subst (λ (o : List Text). IsMistake o error) same is) ends says (Keeps-refl output) refl
 
-pub called : (before after : Holding) (words others : List Text) (told : Told) (call : Call) (old new : Streams)
+pub called : (isa : InstructionSet) (before after : Holding) (words others : List Text) (told : Told) (call : Call)
+    (old new : Streams)
     (status : ℕ) → tracing_of words ≡ Some told → others ≡ other_words words → IsCall others call
-    → RunsTraced before after told call old new status
-    → IsTracedRun before after words old new status
-called before after words others told call old new status some same is runs =
+    → RunsTraced isa before after told call old new status
+    → IsTracedRun isa before after words old new status
+called isa before after words others told call old new status some same is runs =
     Called told some call (subst (λ (o : List Text). IsCall o call) same is) runs

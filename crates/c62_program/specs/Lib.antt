@@ -6,3 +6,4 @@ pub mod Teaching
 pub mod Program
 pub mod Tracing
 pub mod Whole
+pub mod Sets

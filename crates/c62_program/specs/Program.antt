@@ -29,6 +29,7 @@ use Rattle.c62_program.specs.declared.teaching.Asked.{Asked}
 use Rattle.c62_program.specs.declared.teaching.Asked.TheVariants.{Known, Unknown}
 use Rattle.c62_program.specs.Trouble.{HasCallTrouble, HasTrouble, IsSaid, status_of}
 use Rattle.c62_program.specs.declared.trouble.Trouble.{Trouble}
+use Rattle.c62_op.specs.declared.set.InstructionSet.{InstructionSet}
 
 -- what a name stands for, where that is known: standard input or a file
 abbrev pub held : Holding → (input : Option (List ℕ)) → Text → Option (List ℕ)
@@ -64,20 +65,20 @@ pub record IsRefused (words : List Text) : Type 0 where
 
 -- A run of the words of a command on what its source gives. All that is promised of a run on a stream is so of one on a stream of the
 -- bytes that were read. Files are read only for words that ask for something.
-pub data RunsFrom (holds : Holding) (words : List Text) (source : From) (old new : Streams) (status : ℕ) : Type 0 where
-  OnInput : source ≡ Standard → IsRun words old new status → RunsFrom holds words source old new status
-  OnNothing : IsRefused words → IsRun words old new status → RunsFrom holds words source old new status
+pub data RunsFrom (isa : InstructionSet) (holds : Holding) (words : List Text) (source : From) (old new : Streams) (status : ℕ) : Type 0 where
+  OnInput : source ≡ Standard → IsRun isa words old new status → RunsFrom isa holds words source old new status
+  OnNothing : IsRefused words → IsRun isa words old new status → RunsFrom isa holds words source old new status
   OnBytes : (bytes : List ℕ) (left : Option (List ℕ)) → IsGiven holds old.input source bytes
-      → IsRun words (streams (Some bytes) old.output old.errors) (streams left new.output new.errors) status
-      → RunsFrom holds words source old new status
+      → IsRun isa words (streams (Some bytes) old.output old.errors) (streams left new.output new.errors) status
+      → RunsFrom isa holds words source old new status
 
 -- A run of `lint`: its words are refused before anything is read, or the faults of what its source gives are told.
-pub data RunsLint (holds : Holding) (words : List Text) (source : From) (old new : Streams) (status : ℕ) : Type 0 where
+pub data RunsLint (isa : InstructionSet) (holds : Holding) (words : List Text) (source : From) (old new : Streams) (status : ℕ) : Type 0 where
   Refused : linting_of words ≡ None → status ≡ 2 → Tells old.errors new.errors LINT.now → Keeps old.output new.output → Keeps old.input new.input
-      → RunsLint holds words source old new status
+      → RunsLint isa holds words source old new status
   Lints : (linting : Linting) → linting_of words ≡ Some linting → (bytes : List ℕ) → IsGiven holds old.input source bytes
-      → (lines : List ℕ) (faulty : Bool) → IsLinted linting (text_name source) bytes lines faulty
-      → IsLintRun lines faulty old.output new.output old.errors new.errors status → RunsLint holds words source old new status
+      → (lines : List ℕ) (faulty : Bool) → IsLinted isa linting (text_name source) bytes lines faulty
+      → IsLintRun lines faulty old.output new.output old.errors new.errors status → RunsLint isa holds words source old new status
 
 -- what explains why words ask for nothing: of a setting that is none the reason, and of promises and other words nothing
 abbrev pub refusal_taught : List Text → CommandError → List ℕ
@@ -103,40 +104,40 @@ is_told words = is_explained words || is_strict words || is_watched words
 -- A run of words with `--explain`, `--strict` or `--apart`: what is promised of a run without `--explain` is so of it. Behind what that tells of
 -- a text or of words that are refused stands with `--explain` what explains why, behind a serial run where accesses meet that `--apart` names,
 -- and behind a strict run in which accesses fault stands each of them. The status is that run's, but where accesses meet.
-pub data RunsTold (holds : Holding) (words : List Text) (source : From) (old new : Streams) (status : ℕ) : Type 0 where
+pub data RunsTold (isa : InstructionSet) (holds : Holding) (words : List Text) (source : From) (old new : Streams) (status : ℕ) : Type 0 where
   OnNothing : (more : List ℕ) → IsRefusedFor (is_explained words) (plain_words words) more
-      → RunsMore (plain_words words) (behind_words more) old new status → RunsTold holds words source old new status
+      → RunsMore isa (plain_words words) (behind_words more) old new status → RunsTold isa holds words source old new status
   OnBytes : (bytes : List ℕ) (left : Option (List ℕ)) → IsGiven holds old.input source bytes
       → (refused apart faulted : List ℕ) (meets : Bool) (plain : ℕ)
-      → AreToldOf (is_explained words) (plain_words words) source bytes refused apart faulted meets
-      → RunsMore (plain_words words) (behind_text refused apart faulted) (streams (Some bytes) old.output old.errors)
+      → AreToldOf isa (is_explained words) (plain_words words) source bytes refused apart faulted meets
+      → RunsMore isa (plain_words words) (behind_text refused apart faulted) (streams (Some bytes) old.output old.errors)
       (streams left new.output new.errors) plain
       → status ≡ status_with meets plain
-      → RunsTold holds words source old new status
+      → RunsTold isa holds words source old new status
 
 -- What words do on what their source gives: they ask for `lint`, or for a command, of which more is told or not.
-pub data RunsWords (holds : Holding) (words : List Text) (source : From) (old new : Streams) (status : ℕ) : Type 0 where
-  Lint : is_lint words ≡ true → RunsLint holds words source old new status → RunsWords holds words source old new status
-  WithMore : is_told words ≡ true → RunsTold holds words source old new status → RunsWords holds words source old new status
-  Plain : is_lint words ≡ false → is_told words ≡ false → RunsFrom holds words source old new status
-      → RunsWords holds words source old new status
+pub data RunsWords (isa : InstructionSet) (holds : Holding) (words : List Text) (source : From) (old new : Streams) (status : ℕ) : Type 0 where
+  Lint : is_lint words ≡ true → RunsLint isa holds words source old new status → RunsWords isa holds words source old new status
+  WithMore : is_told words ≡ true → RunsTold isa holds words source old new status → RunsWords isa holds words source old new status
+  Plain : is_lint words ≡ false → is_told words ≡ false → RunsFrom isa holds words source old new status
+      → RunsWords isa holds words source old new status
 
 -- An answer was made: all of it was written. That of `lint` is what it finds.
 abbrev pub is_made : List Text → ℕ → Bool
 is_made words status = status == 0 || nat_le 5 status || is_lint words && status == 1
 
 -- A run whose answer goes to a file. That holds the answer then, where one was made, and else what it held. Other files are as they were.
-pub record RunsTo (before after : Holding) (words : List Text) (source : From) (target : Text) (old new : Streams) (status : ℕ) : Type 0 where
+pub record RunsTo (isa : InstructionSet) (before after : Holding) (words : List Text) (source : From) (target : Text) (old new : Streams) (status : ℕ) : Type 0 where
   pub answer : List ℕ
-  pub runs : RunsWords before words source (streams old.input (Some []) old.errors) (streams new.input (Some answer) new.errors) status
+  pub runs : RunsWords isa before words source (streams old.input (Some []) old.errors) (streams new.input (Some answer) new.errors) status
   pub made : is_made words status ≡ true → IsReplaced before target answer after
   pub kept : is_made words status ≡ false → after ≡ before
 
 -- what a run does to the output, or to the file that its answer goes to; then nothing is written to the output
-abbrev pub RunsTarget : (before after : Holding) → List Text → From → Option (Bor Text) → (old new : Streams) → ℕ → Type 0
-RunsTarget before after words source None old new status = RunsWords before words source old new status
-RunsTarget before after words source (Some target) old new status =
-    RunsTo before after words source target.now old new status × Keeps old.output new.output
+abbrev pub RunsTarget : InstructionSet → (before after : Holding) → List Text → From → Option (Bor Text) → (old new : Streams) → ℕ → Type 0
+RunsTarget isa before after words source None old new status = RunsWords isa before words source old new status
+RunsTarget isa before after words source (Some target) old new status =
+    RunsTo isa before after words source target.now old new status × Keeps old.output new.output
 
 -- ---- memory that goes to files
 
@@ -174,26 +175,26 @@ pub record IsUndone (before after : Holding) (done : ℕ) (old new : Streams) (s
   pub silent : Keeps old.errors new.errors
 
 -- A run whose answer ends with so many bytes for each of these files. They and the report are written where there is an answer.
-pub record RunsDumping (before after : Holding) (words : List Text) (call : Call) (counts : List ℕ) (old new : Streams) (status : ℕ) : Type 0 where
+pub record RunsDumping (isa : InstructionSet) (before after : Holding) (words : List Text) (call : Call) (counts : List ℕ) (old new : Streams) (status : ℕ) : Type 0 where
   pub answer : List ℕ
   pub done : ℕ
   -- what the error stream holds then
   pub told : Option (List ℕ)
-  pub runs : RunsWords before words (text_source call.source) (streams old.input (Some []) old.errors) (streams new.input (Some answer) told) done
+  pub runs : RunsWords isa before words (text_source call.source) (streams old.input (Some []) old.errors) (streams new.input (Some answer) told) done
   pub made : is_made words done ≡ true → IsDumped before after call counts answer done (streams old.input old.output told) new status
   pub none : is_made words done ≡ false → IsUndone before after done (streams old.input old.output told) new status
 
 -- what a run does whose words write memory to files of these names, if to any
-abbrev pub RunsNaming : List (Bor Text) → (before after : Holding) → List Text → Call → (old new : Streams) → (status : ℕ) → Type 0
-RunsNaming [] before after words call old new status = RunsTarget before after words (text_source call.source) call.target old new status
-RunsNaming (name ∷ names) before after words call old new status =
-    (counts : List ℕ) × AreCountsFor (length (name ∷ names)) (plain_words words) counts × RunsDumping before after words call counts old new status
+abbrev pub RunsNaming : InstructionSet → List (Bor Text) → (before after : Holding) → List Text → Call → (old new : Streams) → (status : ℕ) → Type 0
+RunsNaming isa [] before after words call old new status = RunsTarget isa before after words (text_source call.source) call.target old new status
+RunsNaming isa (name ∷ names) before after words call old new status =
+    (counts : List ℕ) × AreCountsFor (length (name ∷ names)) (plain_words words) counts × RunsDumping isa before after words call counts old new status
 
 -- what a call does, on its words with those of its files of settings in their places
-pub record RunsCall (before after : Holding) (call : Call) (old new : Streams) (status : ℕ) : Type 0 where
+pub record RunsCall (isa : InstructionSet) (before after : Holding) (call : Call) (old new : Streams) (status : ℕ) : Type 0 where
   pub words : List Text
   pub expanded : Expands before (map text_piece call.words.items) words
-  pub runs : RunsNaming call.dumps.items before after words call old new status
+  pub runs : RunsNaming isa call.dumps.items before after words call old new status
 
 -- files are as they were, but that memory may have been written to the first few of these
 abbrev pub HasBegun : (before after : Holding) → (names : List Text) → Type 0
@@ -209,7 +210,7 @@ pub record IsFailure (before after : Holding) (words : List Text) (old new : Str
   pub kept : HasBegun before after (dumps words)
 
 -- What comes of a call: it does what it asks for, or there is trouble.
-pub data EndsCall (before after : Holding) (call : Call) (old new : Streams) (status : ℕ) : Type 0 where
-  Did : RunsCall before after call old new status → EndsCall before after call old new status
+pub data EndsCall (isa : InstructionSet) (before after : Holding) (call : Call) (old new : Streams) (status : ℕ) : Type 0 where
+  Did : RunsCall isa before after call old new status → EndsCall isa before after call old new status
   Failed : (trouble : Trouble) → HasCallTrouble before call trouble → status ≡ status_of trouble → IsSaid trouble old.errors new.errors
-      → Keeps old.output new.output → HasBegun before after (texts call.dumps.items) → EndsCall before after call old new status
+      → Keeps old.output new.output → HasBegun before after (texts call.dumps.items) → EndsCall isa before after call old new status

@@ -15,6 +15,7 @@ use Rattle.c62_teach.specs.Faulted.{TellsFaults}
 use Rattle.c62_teach.specs.Taught.{Teaches}
 use Rattle.c62_program.specs.Written.{IsWritten}
 use Rattle.c62_program.specs.declared.page.TheConstants.{EXPLAIN}
+use Rattle.c62_op.specs.declared.set.InstructionSet.{InstructionSet}
 
 -- what a text is called: by its file, and standard input is `-`
 abbrev pub text_name : From → Text
@@ -60,30 +61,30 @@ abbrev pub status_with : (meets : Bool) → (status : ℕ) → ℕ
 status_with meets status = if meets && status == 0 then 5 else status
 
 -- words are run, and behind what that tells stands more, by the status
-pub record RunsMore (words : List Text) (more : ℕ → List ℕ) (old new : Streams) (status : ℕ) : Type 0 where
+pub record RunsMore (isa : InstructionSet) (words : List Text) (more : ℕ → List ℕ) (old new : Streams) (status : ℕ) : Type 0 where
   -- what the error stream holds then
   pub told : Option (List ℕ)
-  pub runs : IsRun words old (streams new.input new.output told) status
+  pub runs : IsRun isa words old (streams new.input new.output told) status
   pub behind : Tells told new.errors (more status)
 
 -- this explains the fault of a text, for what is asked of it, where that is wanted
-abbrev pub TeachesWanted : (wanted : Bool) → Ask → (name listing text more : List ℕ) → Type 0
-TeachesWanted true ask name listing text more = Teaches ask name listing text more
-TeachesWanted false ask name listing text more = more ≡ []
+abbrev pub TeachesWanted : InstructionSet → (wanted : Bool) → Ask → (name listing text more : List ℕ) → Type 0
+TeachesWanted isa true ask name listing text more = Teaches isa ask name listing text more
+TeachesWanted isa false ask name listing text more = more ≡ []
 
 -- what is told of a text: what explains its fault, where accesses meet that are to be apart, and which fault in a strict run
-pub record AreTold (wanted : Bool) (ask : Ask) (name listing text : List ℕ) (refused apart faulted : List ℕ) (meets : Bool) : Type 0 where
-  pub explains : TeachesWanted wanted ask name listing text refused
-  pub watches : TellsApart ask text apart meets
+pub record AreTold (isa : InstructionSet) (wanted : Bool) (ask : Ask) (name listing text : List ℕ) (refused apart faulted : List ℕ) (meets : Bool) : Type 0 where
+  pub explains : TeachesWanted isa wanted ask name listing text refused
+  pub watches : TellsApart isa ask text apart meets
   -- the accesses that fault
   pub faults : List ℕ
-  pub which : TellsFaults ask text faults
+  pub which : TellsFaults isa ask text faults
   pub both : faulted ≡ apart ++ faults
 
 -- so it is of what a source gives, for what the words ask of it
-abbrev pub AreToldOf : (wanted : Bool) → List Text → From → (bytes : List ℕ) → (refused apart faulted : List ℕ) → (meets : Bool) → Type 0
-AreToldOf wanted words source bytes refused apart faulted meets =
-    IsSomeAnd (asked words) (λ ask. AreTold wanted ask (text_name source) (listing_name source) bytes refused apart faulted meets)
+abbrev pub AreToldOf : InstructionSet → (wanted : Bool) → List Text → From → (bytes : List ℕ) → (refused apart faulted : List ℕ) → (meets : Bool) → Type 0
+AreToldOf isa wanted words source bytes refused apart faulted meets =
+    IsSomeAnd (asked words) (λ ask. AreTold isa wanted ask (text_name source) (listing_name source) bytes refused apart faulted meets)
 
 -- ---- names
 

@@ -27,6 +27,7 @@ use Rattle.c62_program.specs.declared.page.TheConstants.{TRACE}
 use Rattle.c62_program.specs.Trouble.{HasCallTrouble, IsTroubleWithSource, IsTroubleWriting, Says, call_message, status_of}
 use Rattle.c62_program.specs.declared.trouble.Trouble.{Trouble}
 use Rattle.c62_program.specs.declared.trouble.Trouble.TheVariants.{NoCall, Memory}
+use Rattle.c62_op.specs.declared.set.InstructionSet.{InstructionSet}
 
 -- ---- files
 
@@ -45,33 +46,33 @@ EndsFile before after name bytes Cut = ⊥
 
 -- The file of this name holds what is drawn of the run that is asked for, all of it and nothing else; of a text that isn't run all
 -- files are what they were.
-pub record DrawsToFile (before after : Holding) (drawn : Drawn) (window : Window) (request : Request) (text : List ℕ) (name : Text) : Type 0 where
+pub record DrawsToFile (isa : InstructionSet) (before after : Holding) (drawn : Drawn) (window : Window) (request : Request) (text : List ℕ) (name : Text) : Type 0 where
   pub traced : Traced
   pub bytes : List ℕ
-  pub draws : DrawsRequest drawn window request text traced (Some []) (Some bytes)
+  pub draws : DrawsRequest isa drawn window request text traced (Some []) (Some bytes)
   pub ends : EndsFile before after name bytes traced
 
 -- A trace goes to standard error or to a file, where it is asked for.
-abbrev pub IsTracedTo : (before after : Holding) → Window → Request → (text : List ℕ) → Option To → (old new : Option (List ℕ)) → Type 0
-IsTracedTo before after window request text None old new = (after ≡ before) × (new ≡ old)
-IsTracedTo before after window request text (Some Errors) old new =
-    (after ≡ before) × (traced : Traced) × DrawsRequest Trace window request text traced old new
-IsTracedTo before after window request text (Some (ToFile name)) old new =
-    DrawsToFile before after Trace window request text name × (new ≡ old)
+abbrev pub IsTracedTo : InstructionSet → (before after : Holding) → Window → Request → (text : List ℕ) → Option To → (old new : Option (List ℕ)) → Type 0
+IsTracedTo isa before after window request text None old new = (after ≡ before) × (new ≡ old)
+IsTracedTo isa before after window request text (Some Errors) old new =
+    (after ≡ before) × (traced : Traced) × DrawsRequest isa Trace window request text traced old new
+IsTracedTo isa before after window request text (Some (ToFile name)) old new =
+    DrawsToFile isa before after Trace window request text name × (new ≡ old)
 
 -- and a waveform to a file
-abbrev pub IsWavedTo : (before after : Holding) → Window → Request → (text : List ℕ) → Option Text → Type 0
-IsWavedTo before after window request text None = after ≡ before
-IsWavedTo before after window request text (Some name) = DrawsToFile before after Wave window request text name
+abbrev pub IsWavedTo : InstructionSet → (before after : Holding) → Window → Request → (text : List ℕ) → Option Text → Type 0
+IsWavedTo isa before after window request text None = after ≡ before
+IsWavedTo isa before after window request text (Some name) = DrawsToFile isa before after Wave window request text name
 
 abbrev pub window_of : Told → Window
 window_of told = record { from = told.from; count = told.count }
 
 -- What is asked for of a run is written: its trace, and then its waveform.
-pub record AreTraced (before after : Holding) (told : Told) (request : Request) (text : List ℕ) (old new : Option (List ℕ)) : Type 0 where
+pub record AreTraced (isa : InstructionSet) (before after : Holding) (told : Told) (request : Request) (text : List ℕ) (old new : Option (List ℕ)) : Type 0 where
   pub between : Holding
-  pub trace : IsTracedTo before between (window_of told) request text told.trace old new
-  pub wave : IsWavedTo between after (window_of told) request text told.vcd
+  pub trace : IsTracedTo isa before between (window_of told) request text told.trace old new
+  pub wave : IsWavedTo isa between after (window_of told) request text told.vcd
 
 -- Where not all of it is written, no file is another than before but the one that the trace goes to,
 abbrev pub LeavesFiles : (before after : Holding) → Option To → Type 0
@@ -119,52 +120,52 @@ IsTroubleTracing told source trouble =
     (trouble ≡ Memory) ⊎ (IsTroubleWithSource source trouble ⊎ (IsTroubleTracingTo told.trace trouble ⊎ IsTroubleWavingTo told.vcd trouble))
 
 -- Words ask for a run, whose trace and waveform are written of what a source gives; or they ask for nothing, and nothing is read or written.
-abbrev pub IsTextTraced : (before after : Holding) → Told → List Text → From → (input left : Option (List ℕ)) → Option (List ℕ) → (old new : Option (List ℕ)) → Type 0
-IsTextTraced before after told words source input left None old new =
+abbrev pub IsTextTraced : InstructionSet → (before after : Holding) → Told → List Text → From → (input left : Option (List ℕ)) → Option (List ℕ) → (old new : Option (List ℕ)) → Type 0
+IsTextTraced isa before after told words source input left None old new =
     IsRefused (plain_words words) × (after ≡ before) × (left ≡ input) × (new ≡ old)
-IsTextTraced before after told words source input left (Some text) old new =
+IsTextTraced isa before after told words source input left (Some text) old new =
     (command : Command) × (asked (plain_words words) ≡ Some (ask_told command)) × IsGiven before input source text
-    × AreTraced before after told command.request text old new
+    × AreTraced isa before after told command.request text old new
 
 -- a call with these words on a source comes to its end, or memory ran out before it began
-abbrev pub EndsOn : (before after : Holding) → Call → List Text → From → (old new : Streams) → (status : ℕ) → Type 0
-EndsOn before after call words source old new status =
-    ((made : Call) × IsCallOn call words source made × EndsCall before after made old new status)
+abbrev pub EndsOn : InstructionSet → (before after : Holding) → Call → List Text → From → (old new : Streams) → (status : ℕ) → Type 0
+EndsOn isa before after call words source old new status =
+    ((made : Call) × IsCallOn call words source made × EndsCall isa before after made old new status)
     ⊎ ((status ≡ status_of Memory) × Says Tells Memory old.errors new.errors × Keeps old.output new.output × (after ≡ before))
 
 -- on a text that was read, or on what its source gives
-abbrev pub EndsRead : (before after : Holding) → Call → List Text → Option (List ℕ) → (old new : Streams) → (status : ℕ) → Type 0
-EndsRead before after call words None old new status = EndsOn before after call words (text_source call.source) old new status
-EndsRead before after call words (Some text) old new status =
-    (left : Option (List ℕ)) × EndsOn before after call words (read_source (text_source call.source)) (streams (Some text) old.output old.errors)
+abbrev pub EndsRead : InstructionSet → (before after : Holding) → Call → List Text → Option (List ℕ) → (old new : Streams) → (status : ℕ) → Type 0
+EndsRead isa before after call words None old new status = EndsOn isa before after call words (text_source call.source) old new status
+EndsRead isa before after call words (Some text) old new status =
+    (left : Option (List ℕ)) × EndsOn isa before after call words (read_source (text_source call.source)) (streams (Some text) old.output old.errors)
     (streams left new.output new.errors) status
 
 -- What is done for a call whose run is traced. There is trouble, and nothing is written to the output. Or its words ask for nothing, and it
 -- says so as without a trace. Else the trace and the waveform are written of the run that they ask for on the bytes that the source gives, and
 -- then they do on these bytes what they do without a trace.
-pub data RunsTraced (before after : Holding) (told : Told) (call : Call) (old new : Streams) (status : ℕ) : Type 0 where
+pub data RunsTraced (isa : InstructionSet) (before after : Holding) (told : Told) (call : Call) (old new : Streams) (status : ℕ) : Type 0 where
   Stopped : (trouble : Trouble) → HasCallTrouble before call trouble ⊎ IsTroubleTracing told (text_source call.source) trouble
       → status ≡ status_of trouble → Keeps old.output new.output → LeavesFiles before after told.trace
       → (errors : Option (List ℕ)) → LeavesErrors told.trace old.errors errors → Says Tells trouble errors new.errors
-      → RunsTraced before after told call old new status
+      → RunsTraced isa before after told call old new status
   Untraced : (words : List Text) → Expands before (map text_piece call.words.items) words → IsRefused (plain_words words)
-      → EndsOn before after call words (text_source call.source) old new status → RunsTraced before after told call old new status
+      → EndsOn isa before after call words (text_source call.source) old new status → RunsTraced isa before after told call old new status
   Shown : (words : List Text) → Expands before (map text_piece call.words.items) words
       → (command : Command) → asked (plain_words words) ≡ Some (ask_told command)
       → (text : List ℕ) → IsGiven before old.input (text_source call.source) text
-      → (between : Holding) (errors left : Option (List ℕ)) → AreTraced before between told command.request text old.errors errors
-      → EndsOn between after call words (read_source (text_source call.source)) (streams (Some text) old.output errors)
+      → (between : Holding) (errors left : Option (List ℕ)) → AreTraced isa before between told command.request text old.errors errors
+      → EndsOn isa between after call words (read_source (text_source call.source)) (streams (Some text) old.output errors)
       (streams left new.output new.errors) status
-      → RunsTraced before after told call old new status
+      → RunsTraced isa before after told call old new status
 
 -- What is done for words that ask for a trace: what these ask for is bad, or the others make no call, or it is traced.
-pub data IsTracedRun (before after : Holding) (words : List Text) (old new : Streams) (status : ℕ) : Type 0 where
+pub data IsTracedRun (isa : InstructionSet) (before after : Holding) (words : List Text) (old new : Streams) (status : ℕ) : Type 0 where
   Misnamed : tracing_of words ≡ None → status ≡ 2 → Tells old.errors new.errors TRACE.now → Keeps old.output new.output
-      → after ≡ before → IsTracedRun before after words old new status
+      → after ≡ before → IsTracedRun isa before after words old new status
   Exhausted : status ≡ status_of Memory → Says Tells Memory old.errors new.errors → Keeps old.output new.output → after ≡ before
-      → IsTracedRun before after words old new status
+      → IsTracedRun isa before after words old new status
   NoneCalled : (error : CallError) → IsMistake (other_words words) error → status ≡ status_of (NoCall error)
       → Tells old.errors new.errors (call_message error) → Keeps old.output new.output → after ≡ before
-      → IsTracedRun before after words old new status
+      → IsTracedRun isa before after words old new status
   Called : (told : Told) → tracing_of words ≡ Some told → (call : Call) → IsCall (other_words words) call
-      → RunsTraced before after told call old new status → IsTracedRun before after words old new status
+      → RunsTraced isa before after told call old new status → IsTracedRun isa before after words old new status

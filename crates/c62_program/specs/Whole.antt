@@ -12,13 +12,14 @@ use Rattle.c62_program.specs.Teaching.{IsTopicRun, is_topic, name_asked}
 use Rattle.c62_program.specs.Tracing.{IsTracedRun}
 use Rattle.c62_program.specs.Written.{IsWritten}
 use Rattle.c62_program.specs.declared.page.Page.{Page as Told}
+use Rattle.c62_op.specs.declared.set.InstructionSet.{InstructionSet}
 
 -- The program prints a page, explains a name, does what a call asks for, with a trace or without one, or there is trouble.
-pub data IsProgramRun (before after : Holding) (words : List Text) (old new : Streams) (status : ℕ) : Type 0 where
-  Page : (page : Told) → page_asked words ≡ Some page → IsWritten (page_text page) 0 old.output new.output old.errors new.errors status → IsProgramRun before after words old new status
-  Topic : page_asked words ≡ None → is_topic words ≡ true → IsTopicRun (name_asked words) old.output new.output old.errors new.errors status → IsProgramRun before after words old new status
-  Traces : page_asked words ≡ None → is_topic words ≡ false → is_traced words ≡ true → IsTracedRun before after words old new status
-      → IsProgramRun before after words old new status
-  Runs : (call : Call) → page_asked words ≡ None → is_topic words ≡ false → is_traced words ≡ false → IsCall words call → RunsCall before after call old new status
-      → IsProgramRun before after words old new status
-  Fails : page_asked words ≡ None → is_topic words ≡ false → IsFailure before after words old new status → IsProgramRun before after words old new status
+pub data IsProgramRun (isa : InstructionSet) (before after : Holding) (words : List Text) (old new : Streams) (status : ℕ) : Type 0 where
+  Page : (page : Told) → page_asked words ≡ Some page → IsWritten (page_text page) 0 old.output new.output old.errors new.errors status → IsProgramRun isa before after words old new status
+  Topic : page_asked words ≡ None → is_topic words ≡ true → IsTopicRun (name_asked words) old.output new.output old.errors new.errors status → IsProgramRun isa before after words old new status
+  Traces : page_asked words ≡ None → is_topic words ≡ false → is_traced words ≡ true → IsTracedRun isa before after words old new status
+      → IsProgramRun isa before after words old new status
+  Runs : (call : Call) → page_asked words ≡ None → is_topic words ≡ false → is_traced words ≡ false → IsCall words call → RunsCall isa before after call old new status
+      → IsProgramRun isa before after words old new status
+  Fails : page_asked words ≡ None → is_topic words ≡ false → IsFailure before after words old new status → IsProgramRun isa before after words old new status

@@ -17,6 +17,7 @@ use c62_answer::write_whole;
 use c62_command::{CommandError, command_of};
 use c62_dumping::{counts_asked, files_of, parted};
 use c62_files::{Call, Folder, write_files};
+use c62_op::InstructionSet;
 use c62_teach::plain_words;
 use std::alloc::{AllocError, Global};
 use std::io::{Read, Write};
@@ -113,6 +114,7 @@ pub(crate) fn run_dumping<
     W: Write,
     E: Write,
 >(
+    isa: InstructionSet,
     rt: &H,
     folder: &mut F,
     words: &[String],
@@ -124,14 +126,23 @@ pub(crate) fn run_dumping<
 ) -> Result<u8, Trouble<'a>>
     ensures ok { let old = streams (R.remaining input.old) (W.contents output.old) (E.contents errors.old) in
         let new = streams (R.remaining input.new) (W.contents output.new) (E.contents errors.new) in
-        IfOk result (RunsDumping (F.holds folder.old) (F.holds folder.new) (map string_bytes words.now) call.now counts.now old new) }
+        IfOk result (RunsDumping isa (F.holds folder.old) (F.holds folder.new) (map string_bytes words.now) call.now counts.now old new) }
     ensures err { IfErr result (λ _. Keeps (W.contents output.old) (W.contents output.new)) }
     ensures silent { IfErr result (λ trouble. is_early trouble ≡ true → Keeps (E.contents errors.old) (E.contents errors.new)) }
     ensures kept { OnErr result (HasBegun (F.holds folder.old) (F.holds folder.new) (texts call.now.dumps.items)) }
     ensures why { IfErr result (IsTroubleWithCall call.now) }
 {
     let mut answer = Vec::new(rt.alloc());
-    let status = run_words(rt, folder, words, call.source, input, &mut answer, errors)?;
+    let status = run_words(
+        isa,
+        rt,
+        folder,
+        words,
+        call.source,
+        input,
+        &mut answer,
+        errors,
+    )?;
     if !is_made(words, status) {
         return Ok(status);
     }

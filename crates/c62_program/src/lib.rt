@@ -5,11 +5,12 @@ mod dumping;
 mod joined;
 mod page;
 mod program;
+mod sets;
 mod teaching;
 mod topic;
 mod tracing;
 mod trouble;
 mod written;
 
-pub use page::{EXPLAIN, LINT, TRACE};
-pub use program::run_program;
+pub use page::{EXPLAIN, ISA, LINT, TRACE};
+pub use sets::run_program;

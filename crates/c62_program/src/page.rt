@@ -69,6 +69,13 @@ Example:
   c62 explain BadUnit
 ";
 
+/// What is told where no set of instructions is named.
+pub const ISA: &str = "\
+error: '--isa' takes 'core' or 'full', once
+
+For more information, try '--help'.
+";
+
 /// How a run is traced (docs/TRACE.md).
 pub const TRACE: &str = "\
 Tells cycle by cycle what a run of packets does, beside its report

@@ -25,6 +25,7 @@ use crate::written::status_behind;
 use c62_answer::{InputError, MOST_BYTES, read_text, run_tool};
 use c62_command::{CommandError, command_of};
 use c62_files::{Call, Folder, Source, call_of, expanded};
+use c62_op::InstructionSet;
 use c62_teach::{is_explained, is_lint, is_strict, is_watched};
 use c62_tracing::is_traced;
 use std::alloc::{AllocError, Global};
@@ -104,6 +105,7 @@ fn is_asked(alloc: Global, words: &[String]) -> Result<bool, AllocError>
 
 /// Runs a command on what its source gives. Files are read only where the words ask for something.
 fn run_from<'a, H: AllocGlobal + Threads + Wait + Sync, F: Folder, R: Read, W: Write, E: Write>(
+    isa: InstructionSet,
     rt: &H,
     folder: &F,
     words: &[String],
@@ -114,20 +116,20 @@ fn run_from<'a, H: AllocGlobal + Threads + Wait + Sync, F: Folder, R: Read, W: W
 ) -> Result<u8, Trouble<'a>>
     ensures ok { let old = streams (R.remaining input.old) (W.contents output.old) (E.contents errors.old) in
         let new = streams (R.remaining input.new) (W.contents output.new) (E.contents errors.new) in
-        IfOk result (RunsFrom (F.holds folder.now) (map string_bytes words.now) (text_source source.entry) old new) }
+        IfOk result (RunsFrom isa (F.holds folder.now) (map string_bytes words.now) (text_source source.entry) old new) }
     ensures err { IfErr result (λ _. Keeps (W.contents output.old) (W.contents output.new)) }
     ensures silent { IfErr result (λ _. Keeps (E.contents errors.old) (E.contents errors.new)) }
     ensures why { IfErr result (IsTroubleWithSource (text_source source.entry)) }
 {
     if let Source::Standard = source {
-        return Ok(run_tool(rt, words, input, output, errors));
+        return Ok(run_tool(isa, rt, words, input, output, errors));
     }
     if !is_asked(rt.alloc(), words)? {
-        return Ok(run_tool(rt, words, input, output, errors));
+        return Ok(run_tool(isa, rt, words, input, output, errors));
     }
     let bytes = given(rt.alloc(), folder, source, input)?;
     let mut text = bytes.as_slice();
-    Ok(run_tool(rt, words, &mut text, output, errors))
+    Ok(run_tool(isa, rt, words, &mut text, output, errors))
 }
 
 /// Does what words ask for on what their source gives: `lint`, or a command of which more is told or not.
@@ -140,6 +142,7 @@ pub(crate) fn run_words<
     W: Write,
     E: Write,
 >(
+    isa: InstructionSet,
     rt: &H,
     folder: &F,
     words: &[String],
@@ -150,18 +153,18 @@ pub(crate) fn run_words<
 ) -> Result<u8, Trouble<'a>>
     ensures ok { let old = streams (R.remaining input.old) (W.contents output.old) (E.contents errors.old) in
         let new = streams (R.remaining input.new) (W.contents output.new) (E.contents errors.new) in
-        IfOk result (RunsWords (F.holds folder.now) (map string_bytes words.now) (text_source source.entry) old new) }
+        IfOk result (RunsWords isa (F.holds folder.now) (map string_bytes words.now) (text_source source.entry) old new) }
     ensures err { IfErr result (λ _. Keeps (W.contents output.old) (W.contents output.new)) }
     ensures silent { IfErr result (λ _. Keeps (E.contents errors.old) (E.contents errors.new)) }
     ensures why { IfErr result (IsTroubleWithSource (text_source source.entry)) }
 {
     if is_lint(words) {
-        return Ok(run_lint(rt, folder, words, source, input, output, errors)?);
+        return Ok(run_lint(isa, rt, folder, words, source, input, output, errors)?);
     }
     if is_explained(words) || is_strict(words) || is_watched(words) {
-        return Ok(run_told(rt, folder, words, source, input, output, errors)?);
+        return Ok(run_told(isa, rt, folder, words, source, input, output, errors)?);
     }
-    Ok(run_from(rt, folder, words, source, input, output, errors)?)
+    Ok(run_from(isa, rt, folder, words, source, input, output, errors)?)
 }
 
 /// Whether a run of these words that ends with this status made an answer.
@@ -173,6 +176,7 @@ pub(crate) fn is_made(words: &[String], status: u8) -> bool
 
 /// Runs a command whose answer goes to the file of this name.
 fn run_to<'a, H: AllocGlobal + Threads + Wait + Sync, F: Folder, R: Read, E: Write>(
+    isa: InstructionSet,
     rt: &H,
     folder: &mut F,
     words: &[String],
@@ -183,13 +187,13 @@ fn run_to<'a, H: AllocGlobal + Threads + Wait + Sync, F: Folder, R: Read, E: Wri
 ) -> Result<u8, Trouble<'a>>
     ensures ok { let old = streams (R.remaining input.old) None (E.contents errors.old) in
         let new = streams (R.remaining input.new) None (E.contents errors.new) in
-        IfOk result (RunsTo (F.holds folder.old) (F.holds folder.new) (map string_bytes words.now) (text_source source.entry) target.entry.now old new) }
+        IfOk result (RunsTo isa (F.holds folder.old) (F.holds folder.new) (map string_bytes words.now) (text_source source.entry) target.entry.now old new) }
     ensures silent { IfErr result (λ trouble. is_early trouble ≡ true → Keeps (E.contents errors.old) (E.contents errors.new)) }
     ensures kept { OnErr result (F.holds folder.new ≡ F.holds folder.old) }
     ensures why { IfErr result (IsTroubleWithRun (text_source source.entry) (Some target.entry)) }
 {
     let mut answer = Vec::new(rt.alloc());
-    let status = run_words(rt, folder, words, source, input, &mut answer, errors)?;
+    let status = run_words(isa, rt, folder, words, source, input, &mut answer, errors)?;
     if !is_made(words, status) {
         return Ok(status);
     }
@@ -201,6 +205,7 @@ fn run_to<'a, H: AllocGlobal + Threads + Wait + Sync, F: Folder, R: Read, E: Wri
 
 /// Runs a command whose answer goes to the output, or to the file of this name.
 fn run_target<'a, H: AllocGlobal + Threads + Wait + Sync, F: Folder, R: Read, W: Write, E: Write>(
+    isa: InstructionSet,
     rt: &H,
     folder: &mut F,
     words: &[String],
@@ -211,20 +216,21 @@ fn run_target<'a, H: AllocGlobal + Threads + Wait + Sync, F: Folder, R: Read, W:
 ) -> Result<u8, Trouble<'a>>
     ensures ok { let old = streams (R.remaining input.old) (W.contents output.old) (E.contents errors.old) in
         let new = streams (R.remaining input.new) (W.contents output.new) (E.contents errors.new) in
-        IfOk result (RunsTarget (F.holds folder.old) (F.holds folder.new) (map string_bytes words.now) (text_source call.now.source) call.now.target old new) }
+        IfOk result (RunsTarget isa (F.holds folder.old) (F.holds folder.new) (map string_bytes words.now) (text_source call.now.source) call.now.target old new) }
     ensures err { IfErr result (λ _. Keeps (W.contents output.old) (W.contents output.new)) }
     ensures silent { IfErr result (λ trouble. is_early trouble ≡ true → Keeps (E.contents errors.old) (E.contents errors.new)) }
     ensures kept { OnErr result (F.holds folder.new ≡ F.holds folder.old) }
     ensures why { IfErr result (IsTroubleWithRun (text_source call.now.source) call.now.target) }
 {
     match call.target {
-        None => run_words(rt, folder, words, call.source, input, output, errors),
-        Some(target) => run_to(rt, folder, words, call.source, target, input, errors),
+        None => run_words(isa, rt, folder, words, call.source, input, output, errors),
+        Some(target) => run_to(isa, rt, folder, words, call.source, target, input, errors),
     }
 }
 
 /// Does what a call asks for.
 fn run_call<'a, H: AllocGlobal + Threads + Wait + Sync, F: Folder, R: Read, W: Write, E: Write>(
+    isa: InstructionSet,
     rt: &H,
     folder: &mut F,
     call: &Call<'a>,
@@ -234,7 +240,7 @@ fn run_call<'a, H: AllocGlobal + Threads + Wait + Sync, F: Folder, R: Read, W: W
 ) -> Result<u8, Trouble<'a>>
     ensures ok { let old = streams (R.remaining input.old) (W.contents output.old) (E.contents errors.old) in
         let new = streams (R.remaining input.new) (W.contents output.new) (E.contents errors.new) in
-        IfOk result (RunsCall (F.holds folder.old) (F.holds folder.new) call.now old new) }
+        IfOk result (RunsCall isa (F.holds folder.old) (F.holds folder.new) call.now old new) }
     ensures err { IfErr result (λ _. Keeps (W.contents output.old) (W.contents output.new)) }
     ensures silent { IfErr result (λ trouble. is_early trouble ≡ true → Keeps (E.contents errors.old) (E.contents errors.new)) }
     ensures kept { OnErr result (HasBegun (F.holds folder.old) (F.holds folder.new) (texts call.now.dumps.items)) }
@@ -246,8 +252,10 @@ fn run_call<'a, H: AllocGlobal + Threads + Wait + Sync, F: Folder, R: Read, W: W
     };
     let counts = counts_for(rt.alloc(), call.dumps.len(), &words)?;
     match call.dumps.as_slice() {
-        [] => run_target(rt, folder, &words, call, input, output, errors),
-        [_, ..] => run_dumping(rt, folder, &words, call, &counts, input, output, errors),
+        [] => run_target(isa, rt, folder, &words, call, input, output, errors),
+        [_, ..] => run_dumping(
+            isa, rt, folder, &words, call, &counts, input, output, errors,
+        ),
     }
 }
 
@@ -278,12 +286,20 @@ pub(crate) fn end_call<
     R: Read,
     W: Write,
     E: Write,
->(rt: &H, folder: &mut F, call: &Call<'a>, input: &mut R, output: &mut W, errors: &mut E) -> u8
+>(
+    isa: InstructionSet,
+    rt: &H,
+    folder: &mut F,
+    call: &Call<'a>,
+    input: &mut R,
+    output: &mut W,
+    errors: &mut E,
+) -> u8
     ensures { let old = streams (R.remaining input.old) (W.contents output.old) (E.contents errors.old) in
         let new = streams (R.remaining input.new) (W.contents output.new) (E.contents errors.new) in
-        EndsCall (F.holds folder.old) (F.holds folder.new) call.now old new result }
+        EndsCall isa (F.holds folder.old) (F.holds folder.new) call.now old new result }
 {
-    match run_call(rt, folder, call, input, output, errors) {
+    match run_call(isa, rt, folder, call, input, output, errors) {
         Ok(status) => status,
         Err(trouble) => give_up(&trouble, errors),
     }
@@ -297,41 +313,52 @@ fn run_others<
     R: Read,
     W: Write,
     E: Write,
->(rt: &H, folder: &mut F, words: &[S], input: &mut R, output: &mut W, errors: &mut E) -> u8
+>(
+    isa: InstructionSet,
+    rt: &H,
+    folder: &mut F,
+    words: &[S],
+    input: &mut R,
+    output: &mut W,
+    errors: &mut E,
+) -> u8
     requires page { page_asked (map S.text words.now) ≡ None }
     requires topic { is_topic (map S.text words.now) ≡ false }
     requires traced { is_traced (map S.text words.now) ≡ false }
     ensures { let old = streams (R.remaining input.old) (W.contents output.old) (E.contents errors.old) in
         let new = streams (R.remaining input.new) (W.contents output.new) (E.contents errors.new) in
-        IsProgramRun (F.holds folder.old) (F.holds folder.new) (map S.text words.now) old new result }
+        IsProgramRun isa (F.holds folder.old) (F.holds folder.new) (map S.text words.now) old new result }
 {
     let call = match call_of(rt.alloc(), words) {
         Ok(call) => call,
         Err(error) => return give_up(&Trouble::NoCall(error), errors),
     };
-    match run_call(rt, folder, &call, input, output, errors) {
+    match run_call(isa, rt, folder, &call, input, output, errors) {
         Ok(status) => status,
         Err(trouble) => give_up(&trouble, errors),
     }
 }
 
-/// Runs the program on these words, which are those after its name. Answers the stream of errors, which is taken since a trace may go
-/// through it, and the status. Texts come from the files that the words name, or from the reader, and the answer goes to the output or to
-/// a file (docs/COMMANDS.md, "Files").
-///
-/// What [`run_tool`] promises of the bytes of a reader, it promises of the bytes that were read of a file. A file that the answer goes
-/// to holds all of it where there is one, and else what it held. So do the files that memory goes to, which are written before it.
-pub fn run_program<
+/// Runs the program by this set of instructions on words that name no set. Answers the stream of errors, and the status.
+pub(crate) fn run_with<
     H: AllocGlobal + Threads + Wait + Sync,
     F: Folder,
     S: AsStr,
     R: Read,
     W: Write,
     E: Write + Drop,
->(rt: &H, folder: &mut F, words: &[S], input: &mut R, output: &mut W, errors: E) -> (E, u8)
+>(
+    isa: InstructionSet,
+    rt: &H,
+    folder: &mut F,
+    words: &[S],
+    input: &mut R,
+    output: &mut W,
+    errors: E,
+) -> (E, u8)
     ensures { let old = streams (R.remaining input.old) (W.contents output.old) (E.contents errors) in
         let new = streams (R.remaining input.new) (W.contents output.new) (E.contents result.0) in
-        IsProgramRun (F.holds folder.old) (F.holds folder.new) (map S.text words.now) old new result.1 }
+        IsProgramRun isa (F.holds folder.old) (F.holds folder.new) (map S.text words.now) old new result.1 }
 {
     let mut errors = errors;
     if let Some(page) = page_asked(words) {
@@ -343,8 +370,8 @@ pub fn run_program<
         return (errors, status);
     }
     if is_traced(words) {
-        return run_traced(rt, folder, words, input, output, errors);
+        return run_traced(isa, rt, folder, words, input, output, errors);
     }
-    let status = run_others(rt, folder, words, input, output, &mut errors);
+    let status = run_others(isa, rt, folder, words, input, output, &mut errors);
     (errors, status)
 }

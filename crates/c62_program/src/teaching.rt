@@ -17,6 +17,7 @@ use crate::written::status_behind;
 use c62_answer::{run_tool, write_whole};
 use c62_command::{Command, CommandError, Request, command_of};
 use c62_files::{Folder, Source};
+use c62_op::InstructionSet;
 use c62_teach::{
     Linted, Names, Watched, apart_told, faults_told, is_explained, lint_text, linting_of,
     plain_words, setting_taught, taught,
@@ -64,6 +65,7 @@ fn print_lines<W: Write, E: Write>(linted: &Linted, output: &mut W, errors: &mut
 /// Runs `lint` on what its source gives.
 #[tactic(auto, using(crate::proofs::Taught::lint_refused, crate::proofs::Taught::lint_found))]
 pub fn run_lint<'a, H: AllocGlobal, F: Folder, R: Read, W: Write, E: Write>(
+    isa: InstructionSet,
     rt: &H,
     folder: &F,
     words: &[String],
@@ -74,7 +76,7 @@ pub fn run_lint<'a, H: AllocGlobal, F: Folder, R: Read, W: Write, E: Write>(
 ) -> Result<u8, Trouble<'a>>
     ensures ok { let old = streams (R.remaining input.old) (W.contents output.old) (E.contents errors.old) in
         let new = streams (R.remaining input.new) (W.contents output.new) (E.contents errors.new) in
-        IfOk result (RunsLint (F.holds folder.now) (map string_bytes words.now) (text_source source.entry) old new) }
+        IfOk result (RunsLint isa (F.holds folder.now) (map string_bytes words.now) (text_source source.entry) old new) }
     ensures err { IfErr result (λ _. Keeps (W.contents output.old) (W.contents output.new)) }
     ensures silent { IfErr result (λ _. Keeps (E.contents errors.old) (E.contents errors.new)) }
     ensures why { IfErr result (IsTroubleWithSource (text_source source.entry)) }
@@ -86,6 +88,7 @@ pub fn run_lint<'a, H: AllocGlobal, F: Folder, R: Read, W: Write, E: Write>(
     };
     let bytes = given(rt.alloc(), folder, source, input)?;
     let found = lint_text(
+        isa,
         rt.alloc(),
         linting,
         names_of(source).text.as_bytes(),
@@ -146,6 +149,7 @@ fn behind_words(blamed: &[u8], status: u8) -> &[u8]
 
 /// Runs a command whose words ask for nothing, and tells more of why.
 fn run_nothing<H: AllocGlobal + Threads + Wait + Sync, R: Read, W: Write, E: Write>(
+    isa: InstructionSet,
     rt: &H,
     words: &[&str],
     blamed: &[u8],
@@ -155,9 +159,9 @@ fn run_nothing<H: AllocGlobal + Threads + Wait + Sync, R: Read, W: Write, E: Wri
 ) -> u8
     ensures { let old = streams (R.remaining input.old) (W.contents output.old) (E.contents errors.old) in
         let new = streams (R.remaining input.new) (W.contents output.new) (E.contents errors.new) in
-        RunsMore (map (λ word. word.now) words.now) (behind_words blamed.now) old new result }
+        RunsMore isa (map (λ word. word.now) words.now) (behind_words blamed.now) old new result }
 {
-    let status = run_tool(rt, words, input, output, errors);
+    let status = run_tool(isa, rt, words, input, output, errors);
     let _ = write_whole(errors, behind_words(blamed, status));
     status
 }
@@ -200,16 +204,17 @@ impl Told {
 
 /// What explains why a text is refused, where that is wanted.
 fn refusal_told(
+    isa: InstructionSet,
     alloc: Global,
     wanted: bool,
     request: &Request,
     names: Names<'_>,
     text: &[u8],
 ) -> Result<Vec<u8>, AllocError>
-    ensures { IfOk result (λ more. TeachesWanted wanted (ask_of request.now) names.entry.text.now names.entry.listing.now text.now more.items) }
+    ensures { IfOk result (λ more. TeachesWanted isa wanted (ask_of request.now) names.entry.text.now names.entry.listing.now text.now more.items) }
 {
     if wanted {
-        taught(alloc, request, names, text)
+        taught(isa, alloc, request, names, text)
     } else {
         Ok(Vec::new(alloc))
     }
@@ -217,19 +222,20 @@ fn refusal_told(
 
 /// What is told of a text, for what a request asks of it.
 fn request_told(
+    isa: InstructionSet,
     alloc: Global,
     explained: bool,
     request: &Request,
     names: Names<'_>,
     text: &[u8],
 ) -> Result<Told, AllocError>
-    ensures { IfOk result (λ told. AreTold explained (ask_of request.now) names.entry.text.now names.entry.listing.now text.now
+    ensures { IfOk result (λ told. AreTold isa explained (ask_of request.now) names.entry.text.now names.entry.listing.now text.now
         told.refused.items told.apart.lines.items told.faulted.items told.apart.meets) }
 {
-    let refused = refusal_told(alloc, explained, request, names, text)?;
-    let apart = apart_told(alloc, request, text)?;
+    let refused = refusal_told(isa, alloc, explained, request, names, text)?;
+    let apart = apart_told(isa, alloc, request, text)?;
     let mut faulted = Vec::from_slice(alloc, &apart.lines)?;
-    faulted.extend_from_slice(&faults_told(alloc, request, text)?)?;
+    faulted.extend_from_slice(&faults_told(isa, alloc, request, text)?)?;
     Ok(Told {
         refused,
         apart,
@@ -240,20 +246,22 @@ fn request_told(
 /// What is told of a text, for what is asked of it.
 #[tactic(auto, using(crate::proofs::Taught::told_so))]
 fn told_of(
+    isa: InstructionSet,
     alloc: Global,
     explained: bool,
     command: &Command,
     names: Names<'_>,
     text: &[u8],
 ) -> Result<Told, AllocError>
-    ensures { IfOk result (λ told. AreTold explained (ask_told command.now) names.entry.text.now names.entry.listing.now text.now
+    ensures { IfOk result (λ told. AreTold isa explained (ask_told command.now) names.entry.text.now names.entry.listing.now text.now
         told.refused.items told.apart.lines.items told.faulted.items told.apart.meets) }
 {
-    request_told(alloc, explained, &command.request, names, text)
+    request_told(isa, alloc, explained, &command.request, names, text)
 }
 
 /// Runs a command on these bytes, and tells more of them behind it.
 fn run_on<H: AllocGlobal + Threads + Wait + Sync, W: Write, E: Write>(
+    isa: InstructionSet,
     rt: &H,
     words: &[&str],
     bytes: &[u8],
@@ -261,13 +269,13 @@ fn run_on<H: AllocGlobal + Threads + Wait + Sync, W: Write, E: Write>(
     output: &mut W,
     errors: &mut E,
 ) -> u8
-    ensures { (left : Option (List ℕ)) × RunsMore (map (λ word. word.now) words.now)
+    ensures { (left : Option (List ℕ)) × RunsMore isa (map (λ word. word.now) words.now)
         (behind_text told.now.refused.items told.now.apart.lines.items told.now.faulted.items)
         (streams (Some bytes.now) (W.contents output.old) (E.contents errors.old))
         (streams left (W.contents output.new) (E.contents errors.new)) result }
 {
     let mut text = bytes;
-    let status = run_tool(rt, words, &mut text, output, errors);
+    let status = run_tool(isa, rt, words, &mut text, output, errors);
     let _ = write_whole(errors, told.behind(status));
     status
 }
@@ -275,6 +283,7 @@ fn run_on<H: AllocGlobal + Threads + Wait + Sync, W: Write, E: Write>(
 /// Runs a command on what its source gives. Where it refuses that, it tells more of the fault if that is asked for, behind a serial run where
 /// accesses meet that are to be apart, and behind a strict run the accesses that fault. Files are read only where the words ask for something.
 pub fn run_told<'a, H: AllocGlobal + Threads + Wait + Sync, F: Folder, R: Read, W: Write, E: Write>(
+    isa: InstructionSet,
     rt: &H,
     folder: &F,
     words: &[String],
@@ -285,7 +294,7 @@ pub fn run_told<'a, H: AllocGlobal + Threads + Wait + Sync, F: Folder, R: Read, 
 ) -> Result<u8, Trouble<'a>>
     ensures ok { let old = streams (R.remaining input.old) (W.contents output.old) (E.contents errors.old) in
         let new = streams (R.remaining input.new) (W.contents output.new) (E.contents errors.new) in
-        IfOk result (RunsTold (F.holds folder.now) (map string_bytes words.now) (text_source source.entry) old new) }
+        IfOk result (RunsTold isa (F.holds folder.now) (map string_bytes words.now) (text_source source.entry) old new) }
     ensures err { IfErr result (λ _. Keeps (W.contents output.old) (W.contents output.new)) }
     ensures silent { IfErr result (λ _. Keeps (E.contents errors.old) (E.contents errors.new)) }
     ensures why { IfErr result (IsTroubleWithSource (text_source source.entry)) }
@@ -293,11 +302,18 @@ pub fn run_told<'a, H: AllocGlobal + Threads + Wait + Sync, F: Folder, R: Read, 
     let explained = is_explained(words);
     let plain = plain_words(rt.alloc(), words)?;
     match asked_of(rt.alloc(), explained, &plain)? {
-        Asked::Unknown(more) => Ok(run_nothing(rt, &plain, &more, input, output, errors)),
+        Asked::Unknown(more) => Ok(run_nothing(isa, rt, &plain, &more, input, output, errors)),
         Asked::Known(command) => {
             let bytes = given(rt.alloc(), folder, source, input)?;
-            let told = told_of(rt.alloc(), explained, &command, names_of(source), &bytes)?;
-            let status = run_on(rt, &plain, &bytes, &told, output, errors);
+            let told = told_of(
+                isa,
+                rt.alloc(),
+                explained,
+                &command,
+                names_of(source),
+                &bytes,
+            )?;
+            let status = run_on(isa, rt, &plain, &bytes, &told, output, errors);
             Ok(told.status(status))
         }
     }

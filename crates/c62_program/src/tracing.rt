@@ -16,6 +16,7 @@ use c62_answer::write_whole;
 use c62_command::{Command, CommandError, Request, command_of};
 use c62_drawing::{Drawn, Traced, draw_text};
 use c62_files::{Call, FileError, Folder, Piece, Source, call_of, end_sheet, expanded};
+use c62_op::InstructionSet;
 use c62_teach::plain_words;
 use c62_trace::Window;
 use c62_tracing::{Destination, Tracing, other_words, tracing_of};
@@ -52,6 +53,7 @@ fn end_traced<F: Folder>(
 /// Writes what is drawn of a run to the file of this name.
 #[tactic(auto, using(crate::proofs::Traced::draws_to_file))]
 fn draw_file<F: Folder>(
+    isa: InstructionSet,
     alloc: Global,
     folder: &mut F,
     drawn: Drawn,
@@ -60,11 +62,11 @@ fn draw_file<F: Folder>(
     request: &Request,
     text: &[u8],
 ) -> Result<(), FileError>
-    ensures ok { IfOk result (λ _. DrawsToFile (F.holds folder.old) (F.holds folder.new) drawn window request.now text.now name.now) }
+    ensures ok { IfOk result (λ _. DrawsToFile isa (F.holds folder.old) (F.holds folder.new) drawn window request.now text.now name.now) }
     ensures err { OnErr result (F.holds folder.new ≡ F.holds folder.old) }
 {
     let sheet = folder.begin(alloc, name)?;
-    let (sheet, traced) = draw_text(alloc, drawn, request, window, ROOM, text, sheet);
+    let (sheet, traced) = draw_text(isa, alloc, drawn, request, window, ROOM, text, sheet);
     match traced {
         Ok(traced) => end_traced(alloc, folder, name, sheet, traced),
         Err(_) => {
@@ -74,8 +76,9 @@ fn draw_file<F: Folder>(
     }
 }
 
-/// The same where it isn't written: the trouble of the call.
+/// Writes what is drawn of a run to the file of this name. What goes wrong is told as the trouble of the call.
 fn draw_to<'a, F: Folder>(
+    isa: InstructionSet,
     alloc: Global,
     folder: &mut F,
     drawn: Drawn,
@@ -84,11 +87,11 @@ fn draw_to<'a, F: Folder>(
     request: &Request,
     text: &[u8],
 ) -> Result<(), Trouble<'a>>
-    ensures ok { IfOk result (λ _. DrawsToFile (F.holds folder.old) (F.holds folder.new) drawn window request.now text.now name.entry.now) }
+    ensures ok { IfOk result (λ _. DrawsToFile isa (F.holds folder.old) (F.holds folder.new) drawn window request.now text.now name.entry.now) }
     ensures err { OnErr result (F.holds folder.new ≡ F.holds folder.old) }
     ensures why { IfErr result (IsTroubleWriting name.entry.now) }
 {
-    match draw_file(alloc, folder, drawn, name, window, request, text) {
+    match draw_file(isa, alloc, folder, drawn, name, window, request, text) {
         Ok(()) => Ok(()),
         Err(error) => Err(Trouble::of_writing(name, error)),
     }
@@ -96,6 +99,7 @@ fn draw_to<'a, F: Folder>(
 
 /// Writes the trace of a run to where it goes, if it is asked for. Gives back the stream of errors.
 fn trace_to<'a, F: Folder, E: Write + Drop>(
+    isa: InstructionSet,
     alloc: Global,
     folder: &mut F,
     to: Option<Destination<'a>>,
@@ -104,7 +108,7 @@ fn trace_to<'a, F: Folder, E: Write + Drop>(
     text: &[u8],
     errors: E,
 ) -> (E, Result<(), Trouble<'a>>)
-    ensures ok { IfOk result.1 (λ _. IsTracedTo (F.holds folder.old) (F.holds folder.new) window request.now text.now (option_map text_to to.entry)
+    ensures ok { IfOk result.1 (λ _. IsTracedTo isa (F.holds folder.old) (F.holds folder.new) window request.now text.now (option_map text_to to.entry)
         (E.contents errors) (E.contents result.0)) }
     ensures files { OnErr result.1 (F.holds folder.new ≡ F.holds folder.old) }
     ensures errors { OnErr result.1 (LeavesErrors (option_map text_to to.entry) (E.contents errors) (E.contents result.0)) }
@@ -113,14 +117,24 @@ fn trace_to<'a, F: Folder, E: Write + Drop>(
     match to {
         None => (errors, Ok(())),
         Some(Destination::Errors) => {
-            let (errors, traced) = draw_text(alloc, Drawn::Trace, request, window, 0, text, errors);
+            let drawn = Drawn::Trace;
+            let (errors, traced) = draw_text(isa, alloc, drawn, request, window, 0, text, errors);
             match traced {
                 Ok(_) => (errors, Ok(())),
                 Err(_) => (errors, Err(Trouble::Memory)),
             }
         }
         Some(Destination::File(name)) => {
-            let written = draw_to(alloc, folder, Drawn::Trace, name, window, request, text);
+            let written = draw_to(
+                isa,
+                alloc,
+                folder,
+                Drawn::Trace,
+                name,
+                window,
+                request,
+                text,
+            );
             (errors, written)
         }
     }
@@ -128,6 +142,7 @@ fn trace_to<'a, F: Folder, E: Write + Drop>(
 
 /// Writes its waveform to where that goes, if it is asked for.
 fn wave_to<'a, F: Folder>(
+    isa: InstructionSet,
     alloc: Global,
     folder: &mut F,
     to: Option<&'a str>,
@@ -135,19 +150,20 @@ fn wave_to<'a, F: Folder>(
     request: &Request,
     text: &[u8],
 ) -> Result<(), Trouble<'a>>
-    ensures ok { IfOk result (λ _. IsWavedTo (F.holds folder.old) (F.holds folder.new) window request.now text.now (option_map (λ name. name.now) to.entry)) }
+    ensures ok { IfOk result (λ _. IsWavedTo isa (F.holds folder.old) (F.holds folder.new) window request.now text.now (option_map (λ name. name.now) to.entry)) }
     ensures err { OnErr result (F.holds folder.new ≡ F.holds folder.old) }
     ensures why { IfErr result (IsTroubleWavingTo (option_map (λ name. name.now) to.entry)) }
 {
     match to {
         None => Ok(()),
-        Some(name) => draw_to(alloc, folder, Drawn::Wave, name, window, request, text),
+        Some(name) => draw_to(isa, alloc, folder, Drawn::Wave, name, window, request, text),
     }
 }
 
 /// Writes what is asked for of a run: its trace, and then its waveform. Gives back the stream of errors.
 #[tactic(auto, using(crate::proofs::Traced::leaves_files, crate::proofs::Traced::leaves_errors))]
 fn write_traced<'a, F: Folder, E: Write + Drop>(
+    isa: InstructionSet,
     alloc: Global,
     folder: &mut F,
     tracing: &Tracing<'a>,
@@ -155,7 +171,7 @@ fn write_traced<'a, F: Folder, E: Write + Drop>(
     text: &[u8],
     errors: E,
 ) -> (E, Result<(), Trouble<'a>>)
-    ensures ok { IfOk result.1 (λ _. AreTraced (F.holds folder.old) (F.holds folder.new) (told_in tracing.now) request.now text.now
+    ensures ok { IfOk result.1 (λ _. AreTraced isa (F.holds folder.old) (F.holds folder.new) (told_in tracing.now) request.now text.now
         (E.contents errors) (E.contents result.0)) }
     ensures files { OnErr result.1 (LeavesFiles (F.holds folder.old) (F.holds folder.new) (told_in tracing.now).trace) }
     ensures errors { OnErr result.1 (LeavesErrors (told_in tracing.now).trace (E.contents errors) (E.contents result.0)) }
@@ -165,10 +181,19 @@ fn write_traced<'a, F: Folder, E: Write + Drop>(
         from: tracing.from,
         count: tracing.count,
     };
-    let (errors, traced) = trace_to(alloc, folder, tracing.trace, window, request, text, errors);
+    let (errors, traced) = trace_to(
+        isa,
+        alloc,
+        folder,
+        tracing.trace,
+        window,
+        request,
+        text,
+        errors,
+    );
     match traced {
         Ok(()) => {
-            let waved = wave_to(alloc, folder, tracing.vcd, window, request, text);
+            let waved = wave_to(isa, alloc, folder, tracing.vcd, window, request, text);
             (errors, waved)
         }
         Err(trouble) => (errors, Err(trouble)),
@@ -229,6 +254,7 @@ fn call_on<'w, 'a: 'w>(
 /// The text of a call of these words, whose trace is written; none where they ask for nothing. Gives back the stream of errors.
 #[tactic(auto, using(crate::proofs::Traced::same_files, crate::proofs::Traced::same_errors))]
 fn text_traced<'a, F: Folder, R: Read, E: Write + Drop>(
+    isa: InstructionSet,
     alloc: Global,
     folder: &mut F,
     tracing: &Tracing<'a>,
@@ -237,7 +263,7 @@ fn text_traced<'a, F: Folder, R: Read, E: Write + Drop>(
     input: &mut R,
     errors: E,
 ) -> (E, Result<Option<Vec<u8>>, Trouble<'a>>)
-    ensures ok { IfOk result.1 (λ text. IsTextTraced (F.holds folder.old) (F.holds folder.new) (told_in tracing.now) (map string_bytes words.now)
+    ensures ok { IfOk result.1 (λ text. IsTextTraced isa (F.holds folder.old) (F.holds folder.new) (told_in tracing.now) (map string_bytes words.now)
         (text_source source.entry) (R.remaining input.old) (R.remaining input.new) (option_map (λ bytes. bytes.items) text)
         (E.contents errors) (E.contents result.0)) }
     ensures files { OnErr result.1 (LeavesFiles (F.holds folder.old) (F.holds folder.new) (told_in tracing.now).trace) }
@@ -253,7 +279,15 @@ fn text_traced<'a, F: Folder, R: Read, E: Write + Drop>(
         Ok(text) => text,
         Err(trouble) => return (errors, Err(trouble)),
     };
-    let (errors, written) = write_traced(alloc, folder, tracing, &command.request, &text, errors);
+    let (errors, written) = write_traced(
+        isa,
+        alloc,
+        folder,
+        tracing,
+        &command.request,
+        &text,
+        errors,
+    );
     match written {
         Ok(()) => (errors, Ok(Some(text))),
         Err(trouble) => (errors, Err(trouble)),
@@ -271,6 +305,7 @@ fn end_on<
     W: Write,
     E: Write,
 >(
+    isa: InstructionSet,
     rt: &H,
     folder: &mut F,
     call: &Call<'a>,
@@ -282,10 +317,10 @@ fn end_on<
 ) -> u8
     ensures { let old = streams (R.remaining input.old) (W.contents output.old) (E.contents errors.old) in
         let new = streams (R.remaining input.new) (W.contents output.new) (E.contents errors.new) in
-        EndsOn (F.holds folder.old) (F.holds folder.new) call.now (map string_bytes words.entry.now) (text_source source.entry) old new result }
+        EndsOn isa (F.holds folder.old) (F.holds folder.new) call.now (map string_bytes words.entry.now) (text_source source.entry) old new result }
 {
     match call_on(rt.alloc(), call, words, source) {
-        Ok(made) => end_call(rt, folder, &made, input, output, errors),
+        Ok(made) => end_call(isa, rt, folder, &made, input, output, errors),
         Err(_) => give_up(&Trouble::Memory, errors),
     }
 }
@@ -302,6 +337,7 @@ fn answer_call<
     W: Write,
     E: Write,
 >(
+    isa: InstructionSet,
     rt: &H,
     folder: &mut F,
     call: &Call<'a>,
@@ -313,14 +349,26 @@ fn answer_call<
 ) -> u8
     ensures { let old = streams (R.remaining input.old) (W.contents output.old) (E.contents errors.old) in
         let new = streams (R.remaining input.new) (W.contents output.new) (E.contents errors.new) in
-        EndsRead (F.holds folder.old) (F.holds folder.new) call.now (map string_bytes words.entry.now) (option_map (λ bytes. bytes.now) text.entry) old new result }
+        EndsRead isa (F.holds folder.old) (F.holds folder.new) call.now (map string_bytes words.entry.now) (option_map (λ bytes. bytes.now) text.entry) old new result }
 {
     match text {
-        None => end_on(rt, folder, call, words, call.source, input, output, errors),
+        None => end_on(
+            isa,
+            rt,
+            folder,
+            call,
+            words,
+            call.source,
+            input,
+            output,
+            errors,
+        ),
         Some(bytes) => {
             let mut bytes = bytes;
             let source = read_source(call.source);
-            end_on(rt, folder, call, words, source, &mut bytes, output, errors)
+            end_on(
+                isa, rt, folder, call, words, source, &mut bytes, output, errors,
+            )
         }
     }
 }
@@ -336,7 +384,7 @@ fn bytes_of(text: &Option<Vec<u8>>) -> Option<&[u8]>
 }
 
 /// Says what the trouble is, and answers its status. Gives back the stream of errors.
-fn given_up<E: Write>(trouble: &Trouble<'_>, errors: E) -> (E, u8)
+pub(crate) fn tell_trouble<E: Write>(trouble: &Trouble<'_>, errors: E) -> (E, u8)
     ensures status { result.1 ≡ status_of trouble.now }
     ensures said { Says Tells trouble.now (E.contents errors) (E.contents result.0) }
 {
@@ -354,6 +402,7 @@ fn run_call_traced<
     W: Write,
     E: Write + Drop,
 >(
+    isa: InstructionSet,
     rt: &H,
     folder: &mut F,
     tracing: &Tracing<'a>,
@@ -364,13 +413,14 @@ fn run_call_traced<
 ) -> (E, u8)
     ensures { let old = streams (R.remaining input.old) (W.contents output.old) (E.contents errors) in
         let new = streams (R.remaining input.new) (W.contents output.new) (E.contents result.0) in
-        RunsTraced (F.holds folder.old) (F.holds folder.new) (told_in tracing.now) call.now old new result.1 }
+        RunsTraced isa (F.holds folder.old) (F.holds folder.new) (told_in tracing.now) call.now old new result.1 }
 {
     let words = match expanded(rt.alloc(), folder, &call.words) {
         Ok(words) => words,
-        Err(error) => return given_up(&Trouble::of_words(error), errors),
+        Err(error) => return tell_trouble(&Trouble::of_words(error), errors),
     };
     let (mut errors, text) = text_traced(
+        isa,
         rt.alloc(),
         folder,
         tracing,
@@ -381,9 +431,10 @@ fn run_call_traced<
     );
     let text = match text {
         Ok(text) => text,
-        Err(trouble) => return given_up(&trouble, errors),
+        Err(trouble) => return tell_trouble(&trouble, errors),
     };
     let status = answer_call(
+        isa,
         rt,
         folder,
         call,
@@ -415,23 +466,31 @@ pub fn run_traced<
     R: Read,
     W: Write,
     E: Write + Drop,
->(rt: &H, folder: &mut F, words: &[S], input: &mut R, output: &mut W, errors: E) -> (E, u8)
+>(
+    isa: InstructionSet,
+    rt: &H,
+    folder: &mut F,
+    words: &[S],
+    input: &mut R,
+    output: &mut W,
+    errors: E,
+) -> (E, u8)
     ensures { let old = streams (R.remaining input.old) (W.contents output.old) (E.contents errors) in
         let new = streams (R.remaining input.new) (W.contents output.new) (E.contents result.0) in
-        IsTracedRun (F.holds folder.old) (F.holds folder.new) (map S.text words.now) old new result.1 }
+        IsTracedRun isa (F.holds folder.old) (F.holds folder.new) (map S.text words.now) old new result.1 }
 {
     let tracing = match tracing_of(rt.alloc(), words) {
         Ok(Some(tracing)) => tracing,
         Ok(None) => return tell_words(errors),
-        Err(_) => return given_up(&Trouble::Memory, errors),
+        Err(_) => return tell_trouble(&Trouble::Memory, errors),
     };
     let others = match other_words(rt.alloc(), words) {
         Ok(others) => others,
-        Err(_) => return given_up(&Trouble::Memory, errors),
+        Err(_) => return tell_trouble(&Trouble::Memory, errors),
     };
     let call = match call_of(rt.alloc(), &others) {
         Ok(call) => call,
-        Err(error) => return given_up(&Trouble::NoCall(error), errors),
+        Err(error) => return tell_trouble(&Trouble::NoCall(error), errors),
     };
-    run_call_traced(rt, folder, &tracing, &call, input, output, errors)
+    run_call_traced(isa, rt, folder, &tracing, &call, input, output, errors)
 }

@@ -9,6 +9,7 @@ use Rattle.c62_reach.specs.Reach.{IsMarked, IsReached, start, more, Leads, Marks
 use Rattle.c62_reach.specs.Taken.{IsTaken, IsTakenFrom, first_part, lines_spelled, parts_in, text_taken}
 use Rattle.c62_reach.specs.Laws.{AreLeast, AreWhole, IsClosed, IsOne}
 use Rattle.c62_reach.proofs.SearchLemmas.{leads_inside}
+use Rattle.c62_op.specs.declared.set.InstructionSet.{InstructionSet}
 
 pub are_whole : (parts : List Part) (first : ℕ) (marks : List Bool) → AreWhole parts first marks
 are_whole parts first marks is j k there marked leads inside =
@@ -42,17 +43,18 @@ same_marks parts first one other a b =
     (λ h. (a.reached k there).1 ((b.reached k there).0 h)) in
     get_or_default one k d false inside ∙ same ∙ sym (get_or_default other k d false beside))
 
-from_one : (name text one other : List ℕ) → IsTakenFrom name text one → IsTakenFrom name text other → one ≡ other
-from_one name text one other a b =
+from_one : (isa : InstructionSet) (name text one other : List ℕ) → IsTakenFrom isa name text one
+    → IsTakenFrom isa name text other → one ≡ other
+from_one isa name text one other a b =
     let first : a.reached.first ≡ b.reached.first = same_Some a.reached.first b.reached.first (sym a.reached.named
     ∙ b.reached.named) in
     let marks : a.marks ≡ b.marks =
-    same_marks (parts_in text) a.reached.first a.marks b.marks a.reached.reached
-    (subst (λ (n : ℕ). Marks (parts_in text) n b.marks) (sym first) b.reached.reached) in
-    a.taken ∙ ap (λ (m : List Bool). text_taken m (ended_lines text) (lines_spelled text)) marks ∙ sym b.taken
+    same_marks (parts_in isa text) a.reached.first a.marks b.marks a.reached.reached
+    (subst (λ (n : ℕ). Marks (parts_in isa text) n b.marks) (sym first) b.reached.reached) in
+    a.taken ∙ ap (λ (m : List Bool). text_taken m (ended_lines text) (lines_spelled isa text)) marks ∙ sym b.taken
 
-pub is_one : (name text one other : List ℕ) → IsOne name text one other
-is_one name text one other (inl a) (inl b) = a.own ∙ sym b.own
-is_one name text one other (inr a) (inr b) = from_one name text one other a b
-is_one name text one other (inl a) (inr b) = let long = a.long in let short = b.short in absurd (omega arith)
-is_one name text one other (inr a) (inl b) = let long = b.long in let short = a.short in absurd (omega arith)
+pub is_one : (isa : InstructionSet) (name text one other : List ℕ) → IsOne isa name text one other
+is_one isa name text one other (inl a) (inl b) = a.own ∙ sym b.own
+is_one isa name text one other (inr a) (inr b) = from_one isa name text one other a b
+is_one isa name text one other (inl a) (inr b) = let long = a.long in let short = b.short in absurd (omega arith)
+is_one isa name text one other (inr a) (inl b) = let long = b.long in let short = a.short in absurd (omega arith)

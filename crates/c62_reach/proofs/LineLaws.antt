@@ -11,6 +11,7 @@ use Rattle.c62_reach.specs.Ended.{ended_lines}
 use Rattle.c62_reach.specs.Laws.{KeepsLines, StandFor}
 use Rattle.c62_reach.specs.Taken.{behind_first, below_at, first_of, here_at, line_taken, stays, taken_below}
 use Rattle.c62_reach.proofs.Lines.{at_end, before_feed}
+use Rattle.c62_op.specs.declared.set.InstructionSet.{InstructionSet}
 
 -- ---- lines with their ends
 
@@ -99,7 +100,7 @@ all_stand here below (line ∷ other ∷ lines) spelled are =
     (all_stand (here_at (first_of spelled) here below) (below_at (first_of spelled) below) (other ∷ lines)
     (behind_first spelled) are.1)
 
-pub keeps_lines : (name text other : List ℕ) → KeepsLines name text other
-keeps_lines name text other is =
+pub keeps_lines : (isa : InstructionSet) (name text other : List ℕ) → KeepsLines isa name text other
+keeps_lines isa name text other is =
     subst (λ (o : List ℕ). StandFor (ended_lines text) (ended_lines o)) (sym is.taken)
     (all_stand (slice_index_or is.marks 0 false) (drop 1 is.marks) (ended_lines text) _ (are_ended text))

@@ -10,6 +10,7 @@ use Rattle.c62_reach.specs.declared.part.Part.{Part as PartRead}
 use Rattle.c62_reach.specs.Part.{Growing, Part, closed, label_at, new_part, parts_below, with_line}
 use Rattle.c62_reach.specs.PartRead.{part_read}
 use Rattle.c62_reach.specs.Reach.{part_named}
+use Rattle.c62_op.specs.declared.set.InstructionSet.{InstructionSet}
 
 none_is : (label : Option Name) → is_none label ≡ true → label ≡ None
 none_is None e = refl
@@ -20,31 +21,36 @@ some_is None e = absurd cc
 some_is (Some label) e = refl
 
 -- a line without a label belongs to the part
-pub goes_on : (label : Option Name) (parts : List Part) (last : Growing) (line : List ℕ) (lines : List (List ℕ))
+pub goes_on : (isa : InstructionSet) (label : Option Name) (parts : List Part) (last : Growing) (line : List ℕ)
+    (lines : List (List ℕ))
     → is_none label ≡ true → label ≡ label_at line
-    → parts ++ parts_below (with_line line last) lines ≡ parts ++ parts_below last (line ∷ lines)
+    → parts ++ parts_below isa (with_line isa line last) lines ≡ parts ++ parts_below isa last (line ∷ lines)
 unfolding parts_below
-goes_on label parts last line lines none same = rw (sym same ∙ none_is label none) refl
+goes_on isa label parts last line lines none same = rw (sym same ∙ none_is label none) refl
 
 -- one with a label begins another
-pub begins : (label : Option Name) (done : List PartRead) (part : PartRead) (last : Growing) (line : List ℕ)
+pub begins : (isa : InstructionSet) (label : Option Name) (done : List PartRead) (part : PartRead) (last : Growing)
+    (line : List ℕ)
     (lines : List (List ℕ)) → is_none label ≡ false
     → part_read part ≡ closed last → label ≡ label_at line
-    → map part_read (done ++ part ∷ []) ++ parts_below (with_line line (new_part label)) lines ≡ map part_read done ++
-    parts_below last (line ∷ lines)
+    → map part_read (done ++ part ∷ []) ++ parts_below isa (with_line isa line (new_part label)) lines
+    ≡ map part_read done ++
+    parts_below isa last (line ∷ lines)
 unfolding parts_below
-begins label done part last line lines some same is =
+begins isa label done part last line lines some same is =
     let labelled : is_some (label_at line) ≡ true = ap is_some (sym is) ∙ some_is label some in
     rw (labelled, ← is, ← same)
-    (ap (λ (parts : List Part). parts ++ parts_below (with_line line (new_part label)) lines)
+    (ap (λ (parts : List Part). parts ++ parts_below isa (with_line isa line (new_part label)) lines)
     (map-append part_read done (part ∷ []))
-    ∙ append_assoc (map part_read done) (part_read part ∷ []) (parts_below (with_line line (new_part label)) lines))
+    ∙ append_assoc (map part_read done) (part_read part ∷ [])
+    (parts_below isa (with_line isa line (new_part label)) lines))
 
 -- where no line is left, it is the last one
-pub all_parts : (done : List PartRead) (part : PartRead) (last : Growing) → part_read part ≡ closed last
-    → map part_read (done ++ part ∷ []) ≡ map part_read done ++ parts_below last []
+pub all_parts : (isa : InstructionSet) (done : List PartRead) (part : PartRead) (last : Growing)
+    → part_read part ≡ closed last
+    → map part_read (done ++ part ∷ []) ≡ map part_read done ++ parts_below isa last []
 unfolding parts_below
-all_parts done part last same =
+all_parts isa done part last same =
     map-append part_read done (part ∷ []) ∙ ap (λ (p : Part). map part_read done ++ p ∷ []) same
 
 -- ---- the parts that are named

@@ -7,6 +7,7 @@ use Rattle.c62_reach.specs.declared.fault.ReachFault.{ReachFault}
 use Rattle.c62_reach.specs.declared.fault.ReachFault.TheVariants.{Memory}
 use Rattle.c62_reach.specs.Ended.{ended_lines}
 use Rattle.c62_reach.specs.Taken.{IsTaken, Lacks, behind_first, below_at, first_of, here_at, line_taken, taken_below}
+use Rattle.c62_op.specs.declared.set.InstructionSet.{InstructionSet}
 
 pub line_more : (here : Bool) (below : List Bool) (front line : List ℕ) (lines spelled : List (List ℕ))
     → (front ++ line_taken (here_at (first_of spelled) here below) (first_of spelled) line)
@@ -39,9 +40,10 @@ taken_whole here below old rest whole others none all =
 
 -- ---- a text that is too long
 
-pub taken_long : {X : Type 0} (items : X → List ℕ) (name text : List ℕ) (result : Result X ReachFault)
+pub taken_long : (isa : InstructionSet) {X : Type 0} (items : X → List ℕ) (name text : List ℕ)
+    (result : Result X ReachFault)
     → most_bytes < length text
     → MatchResult result (λ other. items other ≡ take (most_bytes + 1) text) (λ fault. fault ≡ Memory)
-    → MatchResult result (λ other. IsTaken name text (items other)) (Lacks name text)
-taken_long items name text (Ok other) long own = inl (record { long = long; own = own })
-taken_long items name text (Err fault) long memory = rw memory tt
+    → MatchResult result (λ other. IsTaken isa name text (items other)) (Lacks isa name text)
+taken_long isa items name text (Ok other) long own = inl (record { long = long; own = own })
+taken_long isa items name text (Err fault) long memory = rw memory tt

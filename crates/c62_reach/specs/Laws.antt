@@ -5,6 +5,7 @@ use Rattle.c62_reach.specs.Ended.{ended_lines}
 use Rattle.c62_reach.specs.Part.{Part}
 use Rattle.c62_reach.specs.Reach.{IsMarked, Leads, Marks}
 use Rattle.c62_reach.specs.Taken.{IsTaken, IsTakenFrom}
+use Rattle.c62_op.specs.declared.set.InstructionSet.{InstructionSet}
 
 -- what a part that is taken leads to is taken
 abbrev pub AreWhole : List Part → ℕ → List Bool → Type 0
@@ -28,9 +29,9 @@ StandsFor line other = (other ≡ line) ⊎ (other ≡ codes "\n")
 abbrev pub StandFor : List (List ℕ) → List (List ℕ) → Type 0
 StandFor lines others = AllZip StandsFor lines others
 
-abbrev pub KeepsLines : List ℕ → List ℕ → List ℕ → Type 0
-KeepsLines name text other = IsTakenFrom name text other → StandFor (ended_lines text) (ended_lines other)
+abbrev pub KeepsLines : InstructionSet → List ℕ → List ℕ → List ℕ → Type 0
+KeepsLines isa name text other = IsTakenFrom isa name text other → StandFor (ended_lines text) (ended_lines other)
 
 -- one text is taken
-abbrev pub IsOne : List ℕ → List ℕ → List ℕ → List ℕ → Type 0
-IsOne name text one other = IsTaken name text one → IsTaken name text other → one ≡ other
+abbrev pub IsOne : InstructionSet → List ℕ → List ℕ → List ℕ → List ℕ → Type 0
+IsOne isa name text one other = IsTaken isa name text one → IsTaken isa name text other → one ≡ other

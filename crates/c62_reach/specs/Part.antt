@@ -8,6 +8,7 @@ use Rattle.c62_adopt_code.specs.declared.way.Way.{Way}
 use Rattle.c62_adopt_code.specs.Statement.{front_of, label_of}
 use Rattle.c62_adopt_code.specs.Way.{comes_nothing, labelled_way, way_on}
 use Rattle.c62_rows.specs.Word.{Said, row_says}
+use Rattle.c62_op.specs.declared.set.InstructionSet.{InstructionSet}
 
 -- the label with which it begins, the labels that its instructions name, and whether what runs in it may run on into the part below
 pub record Part : Type 0 where
@@ -43,8 +44,8 @@ abbrev pub with_read : Result Said LineFault → Growing → Growing
 with_read (Ok said) last = with_said said last
 with_read (Err fault) last = last
 
-abbrev pub with_line : List ℕ → Growing → Growing
-with_line line last = with_read (row_says line) last
+abbrev pub with_line : InstructionSet → List ℕ → Growing → Growing
+with_line isa line last = with_read (row_says isa line) last
 
 -- the label of a line, be it one that can't be read
 abbrev pub label_at : List ℕ → Option Name
@@ -57,12 +58,12 @@ abbrev pub closed : Growing → Part
 closed last = record { label = last.label; names = last.names; runs_on = not (comes_nothing last.way) }
 
 -- a part ends above the next line with a label
-unfoldable pub parts_below : Growing → List (List ℕ) → List Part
-parts_below last [] = closed last ∷ []
-parts_below last (line ∷ lines) =
-    if is_some (label_at line) then closed last ∷ parts_below (with_line line (new_part (label_at line))) lines
-    else parts_below (with_line line last) lines
+unfoldable pub parts_below : InstructionSet → Growing → List (List ℕ) → List Part
+parts_below isa last [] = closed last ∷ []
+parts_below isa last (line ∷ lines) =
+    if is_some (label_at line) then closed last ∷ parts_below isa (with_line isa line (new_part (label_at line))) lines
+    else parts_below isa (with_line isa line last) lines
 
 -- the parts of lines in the spelling that the reader of lines has; the first one stands above all labels
-abbrev pub parts_of : List (List ℕ) → List Part
-parts_of lines = parts_below (new_part None) lines
+abbrev pub parts_of : InstructionSet → List (List ℕ) → List Part
+parts_of isa lines = parts_below isa (new_part None) lines

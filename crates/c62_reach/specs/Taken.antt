@@ -12,6 +12,7 @@ use Rattle.c62_reach.specs.declared.fault.ReachFault.TheVariants.{From, Memory}
 use Rattle.c62_reach.specs.Ended.{ended_lines}
 use Rattle.c62_reach.specs.Part.{Part, label_at, parts_of}
 use Rattle.c62_reach.specs.Reach.{Marks, part_named}
+use Rattle.c62_op.specs.declared.set.InstructionSet.{InstructionSet}
 
 -- ---- a line
 
@@ -59,11 +60,11 @@ taken_below here below (line ∷ lines) spelled =
 abbrev pub text_taken : List Bool → List (List ℕ) → List (List ℕ) → List ℕ
 text_taken marks lines spelled = taken_below (slice_index_or marks 0 false) (drop 1 marks) lines spelled
 
-abbrev pub lines_spelled : List ℕ → List (List ℕ)
-lines_spelled text = lines_of (spelled_text text)
+abbrev pub lines_spelled : InstructionSet → List ℕ → List (List ℕ)
+lines_spelled isa text = lines_of (spelled_text isa text)
 
-abbrev pub parts_in : List ℕ → List Part
-parts_in text = parts_of (lines_spelled text)
+abbrev pub parts_in : InstructionSet → List ℕ → List Part
+parts_in isa text = parts_of isa (lines_spelled isa text)
 
 -- the number of the first part that begins with the label of this name, whose dots are read as `_`
 abbrev pub first_part : Name → List Part → Option ℕ
@@ -81,17 +82,17 @@ pub record IsTooLong (text other : List ℕ) : Type 0 where
   pub own : other ≡ take (most_bytes + 1) text
 
 -- the lines of the parts that are reached from the one of this name
-pub record IsTakenFrom (name text other : List ℕ) : Type 0 where
+pub record IsTakenFrom (isa : InstructionSet) (name text other : List ℕ) : Type 0 where
   pub short : length text ≤ most_bytes
   pub marks : List Bool
-  pub reached : MarksFrom name (parts_in text) marks
-  pub taken : other ≡ text_taken marks (ended_lines text) (lines_spelled text)
+  pub reached : MarksFrom name (parts_in isa text) marks
+  pub taken : other ≡ text_taken marks (ended_lines text) (lines_spelled isa text)
 
 -- what is taken of a text from the label of this name on
-abbrev pub IsTaken : List ℕ → List ℕ → List ℕ → Type 0
-IsTaken name text other = IsTooLong text other ⊎ IsTakenFrom name text other
+abbrev pub IsTaken : InstructionSet → List ℕ → List ℕ → List ℕ → Type 0
+IsTaken isa name text other = IsTooLong text other ⊎ IsTakenFrom isa name text other
 
 -- no line has the label; memory may run out before any answer
-abbrev pub Lacks : List ℕ → List ℕ → ReachFault → Type 0
-Lacks name text From = (length text ≤ most_bytes) × (first_part name (parts_in text) ≡ None)
-Lacks name text Memory = Unit {0}
+abbrev pub Lacks : InstructionSet → List ℕ → List ℕ → ReachFault → Type 0
+Lacks isa name text From = (length text ≤ most_bytes) × (first_part name (parts_in isa text) ≡ None)
+Lacks isa name text Memory = Unit {0}

@@ -1,5 +1,6 @@
 //! Laws of parts of texts that are taken.
 
+ghost use Rattle.c62_op.specs.declared.set.InstructionSet.{InstructionSet};
 ghost use Rattle.std.specs.Prelude.{ℕ, Bool, List};
 ghost use Rattle.c62_reach.specs.Part.{Part};
 ghost use Rattle.c62_reach.specs.Laws.{AreLeast, AreWhole, IsOne, KeepsLines};
@@ -16,10 +17,10 @@ pub fn no_more_is_taken()
 
 /// Lines keep their numbers: each is the line of the text that has its number, or empty.
 pub fn lines_keep_their_numbers()
-    ensures { (name text other : List ℕ) → KeepsLines name text other }
+    ensures { (isa : InstructionSet) (name text other : List ℕ) → KeepsLines isa name text other }
 {}
 
 /// A text is taken in one way from a label on.
 pub fn texts_are_taken_in_one_way()
-    ensures { (name text one other : List ℕ) → IsOne name text one other }
+    ensures { (isa : InstructionSet) (name text one other : List ℕ) → IsOne isa name text one other }
 {}

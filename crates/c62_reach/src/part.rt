@@ -11,6 +11,7 @@ ghost use Rattle.c62_adopt_code.specs.Statement.{front_of, label_of};
 use c62_adopt_code::{Way, label_in_front};
 use c62_adopt_line::LineFault;
 use c62_line::{Label, What};
+use c62_op::InstructionSet;
 use c62_read::first_line;
 use c62_rows::{Said, read_said};
 use std::alloc::{AllocError, Global};
@@ -81,15 +82,16 @@ impl Growing {
 
     fn add_line(
         &mut self,
+        isa: InstructionSet,
         alloc: Global,
         plain: &mut Vec<u8>,
         line: &[u8],
     ) -> Result<(), AllocError>
         requires { IsYoung self.old }
-        ensures line { OnOk result (growing_read self.new ≡ with_line line.now (growing_read self.old)) }
+        ensures line { OnOk result (growing_read self.new ≡ with_line isa line.now (growing_read self.old)) }
         ensures young { OnOk result (IsYoung self.new) }
     {
-        match read_said(alloc, plain, line) {
+        match read_said(isa, alloc, plain, line) {
             Ok(said) => self.add_said(said),
             Err(LineFault::Memory) => Err(AllocError),
             Err(LineFault::Read(_) | LineFault::UnitWanted) => Ok(()),
@@ -115,8 +117,8 @@ struct Reader {
 }
 
 impl Reader {
-    fn new(alloc: Global) -> Reader
-        ensures new { (lines : List (List ℕ)) → parts_at result lines ≡ parts_of lines }
+    fn new(isa: InstructionSet, alloc: Global) -> Reader
+        ensures new { (lines : List (List ℕ)) → parts_at isa result lines ≡ parts_of isa lines }
         ensures young { IsYoung result.last }
     {
         Reader {
@@ -127,9 +129,14 @@ impl Reader {
 
     /// Begins a part at a line with this label, where it has one.
     #[tactic(auto, using(crate::proofs::PartLemmas::begins, crate::proofs::PartLemmas::goes_on))]
-    fn at_label(self, alloc: Global, label: Option<Label>) -> Result<Reader, AllocError>
+    fn at_label(
+        self,
+        isa: InstructionSet,
+        alloc: Global,
+        label: Option<Label>,
+    ) -> Result<Reader, AllocError>
         requires { IsYoung self.last }
-        ensures { IfOk result (BeginsAt label self) }
+        ensures { IfOk result (BeginsAt isa label self) }
     {
         if label.is_none() {
             return Ok(self);
@@ -142,18 +149,24 @@ impl Reader {
         })
     }
 
-    fn add_line(self, alloc: Global, plain: &mut Vec<u8>, line: &[u8]) -> Result<Reader, AllocError>
+    fn add_line(
+        self,
+        isa: InstructionSet,
+        alloc: Global,
+        plain: &mut Vec<u8>,
+        line: &[u8],
+    ) -> Result<Reader, AllocError>
         requires { IsYoung self.last }
-        ensures { IfOk result (AddsLine line.now self) }
+        ensures { IfOk result (AddsLine isa line.now self) }
     {
-        let mut reader = self.at_label(alloc, label_in_front(line))?;
-        reader.last.add_line(alloc, plain, line)?;
+        let mut reader = self.at_label(isa, alloc, label_in_front(line))?;
+        reader.last.add_line(isa, alloc, plain, line)?;
         Ok(reader)
     }
 
     #[tactic(auto, using(crate::proofs::PartLemmas::all_parts))]
-    fn parts(self) -> Result<Vec<Part>, AllocError>
-        ensures { IfOk result (λ parts. map part_read parts.items ≡ parts_at self []) }
+    fn parts(self, isa: InstructionSet) -> Result<Vec<Part>, AllocError>
+        ensures { IfOk result (λ parts. map part_read parts.items ≡ parts_at isa self []) }
     {
         let mut parts = self.done;
         parts.push(self.last.closed())?;
@@ -162,15 +175,19 @@ impl Reader {
 }
 
 /// The parts of a text.
-pub(crate) fn read_parts(alloc: Global, text: &[u8]) -> Result<Vec<Part>, AllocError>
-    ensures { IfOk result (λ parts. map part_read parts.items ≡ parts_of (lines_of text.now)) }
+pub(crate) fn read_parts(
+    isa: InstructionSet,
+    alloc: Global,
+    text: &[u8],
+) -> Result<Vec<Part>, AllocError>
+    ensures { IfOk result (λ parts. map part_read parts.items ≡ parts_of isa (lines_of text.now)) }
 {
-    let mut reader = Reader::new(alloc);
+    let mut reader = Reader::new(isa, alloc);
     let mut plain = Vec::new(alloc);
     let mut rest = text;
     while let Some((line, after)) = first_line(rest) {
-        reader = reader.add_line(alloc, &mut plain, line)?;
+        reader = reader.add_line(isa, alloc, &mut plain, line)?;
         rest = after;
     }
-    reader.parts()
+    reader.parts(isa)
 }

@@ -19,6 +19,7 @@ use c62_adopt_code::{Role, label_in_front, read_role};
 use c62_adopt_cut::MOST_BYTES;
 use c62_adopt_spell::spelled_text;
 use c62_line::Label;
+use c62_op::InstructionSet;
 use c62_rows::undotted;
 use c62_token::number::is_label;
 use std::alloc::{AllocError, Global};
@@ -134,10 +135,15 @@ fn first_part(alloc: Global, index: &Index, name: &[u8]) -> Result<Option<usize>
 
 /// Of each part of a text whose lines are spelled as the reader of lines has it, whether it is reached from the label of this name; nothing where no
 /// line has that.
-fn marks_from(alloc: Global, spelled: &[u8], name: &[u8]) -> Result<Option<Vec<bool>>, AllocError>
-    ensures { IfOk result (λ found. MatchOption found (first_part name.now (parts_of (lines_of spelled.now)) ≡ None) (λ marks. MarksFrom name.now (parts_of (lines_of spelled.now)) marks.items)) }
+fn marks_from(
+    isa: InstructionSet,
+    alloc: Global,
+    spelled: &[u8],
+    name: &[u8],
+) -> Result<Option<Vec<bool>>, AllocError>
+    ensures { IfOk result (λ found. MatchOption found (first_part name.now (parts_of isa (lines_of spelled.now)) ≡ None) (λ marks. MarksFrom name.now (parts_of isa (lines_of spelled.now)) marks.items)) }
 {
-    let parts = read_parts(alloc, spelled)?;
+    let parts = read_parts(isa, alloc, spelled)?;
     let index = Index::new(alloc, &parts)?;
     match first_part(alloc, &index, name)? {
         Some(first) => Ok(Some(reached_from(alloc, &parts, &index, first)?)),
@@ -146,12 +152,17 @@ fn marks_from(alloc: Global, spelled: &[u8], name: &[u8]) -> Result<Option<Vec<b
 }
 
 /// What is taken of a text that is not too long.
-fn taken_from(alloc: Global, text: &[u8], name: &[u8]) -> Result<Vec<u8>, ReachFault>
+fn taken_from(
+    isa: InstructionSet,
+    alloc: Global,
+    text: &[u8],
+    name: &[u8],
+) -> Result<Vec<u8>, ReachFault>
     requires { length text.now ≤ MOST_BYTES }
-    ensures { MatchResult result (λ other. IsTakenFrom name.now text.now other.items) (Lacks name.now text.now) }
+    ensures { MatchResult result (λ other. IsTakenFrom isa name.now text.now other.items) (Lacks isa name.now text.now) }
 {
-    let spelled = spelled_text(alloc, text)?;
-    let Some(marks) = marks_from(alloc, &spelled, name)? else {
+    let spelled = spelled_text(isa, alloc, text)?;
+    let Some(marks) = marks_from(isa, alloc, &spelled, name)? else {
         return Err(ReachFault::From);
     };
     Ok(text_taken(alloc, text, &spelled, &marks)?)
@@ -167,12 +178,17 @@ fn taken_from(alloc: Global, text: &[u8], name: &[u8]) -> Result<Vec<u8>, ReachF
 /// # Errors
 ///
 /// `From` where no line has the label. `Memory` where memory ran out, which may come in place of any answer.
-pub fn reached_text(alloc: Global, text: &[u8], name: &[u8]) -> Result<Vec<u8>, ReachFault>
-    ensures { MatchResult result (λ other. IsTaken name.now text.now other.items) (Lacks name.now text.now) }
+pub fn reached_text(
+    isa: InstructionSet,
+    alloc: Global,
+    text: &[u8],
+    name: &[u8],
+) -> Result<Vec<u8>, ReachFault>
+    ensures { MatchResult result (λ other. IsTaken isa name.now text.now other.items) (Lacks isa name.now text.now) }
 {
     if MOST_BYTES < text.len() {
         too_long(alloc, text)
     } else {
-        taken_from(alloc, text, name)
+        taken_from(isa, alloc, text, name)
     }
 }

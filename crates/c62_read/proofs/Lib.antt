@@ -10,3 +10,4 @@ pub mod CommentLaws
 pub mod CutLemmas
 pub mod ProgramLaws
 pub mod CaseLaws
+pub mod SetLemmas

@@ -9,6 +9,7 @@ use Rattle.c62_read.specs.Program.{Name}
 use Rattle.std.specs.Prelude.{is_none}
 use Rattle.c62_read.specs.Walk.{add_head, begins_block, is_full, is_instruction, with_label, with_says}
 use Rattle.c62_line.proofs.LabelFields.{field_is}
+use Rattle.c62_op.specs.declared.set.InstructionSet.{InstructionSet}
 
 -- ---- the open block in front of blocks
 
@@ -46,12 +47,13 @@ unfolding with_says
 line_own number label says old = grind
     (arith, nat_tests, append-nil, flat_map-append (λ (draft : Draft). option_to_list draft.label))
 
-pub added_own : (number : ℕ) (line : List ℕ) (old new : Drafts) (front : Result (Option Name × List (List ℕ)) Cause)
+pub added_own : (isa : InstructionSet) (number : ℕ) (line : List ℕ) (old new : Drafts)
+    (front : Result (Option Name × List (List ℕ)) Cause)
     → head_of line ≡ front
-    → (add_head number old front).drafts ≡ Ok new
+    → (add_head isa number old front).drafts ≡ Ok new
     → own_labels (all_drafts new) ≡ own_labels (all_drafts old) ++ option_to_list (label_field line)
-added_own number line old new (Err cause) head added = absurd cc
-added_own number line old new (Ok (label, words)) head added = rw (field_is line label words head)
+added_own isa number line old new (Err cause) head added = absurd cc
+added_own isa number line old new (Ok (label, words)) head added = rw (field_is line label words head)
     (grind (arith, nat_tests, line_own))
 
 -- behind a label nothing is too much

@@ -28,27 +28,29 @@ use Rattle.c62_read.proofs.BlockLemmas.{position_map}
 use Rattle.c62_read.proofs.CutLemmas.{AllProper, aim_in, all_more, cut_is}
 use Rattle.c62_line.proofs.SaysLemmas.{has_no_block}
 use Rattle.c62_read.proofs.WalkLemmas.{OkFits, blocks_are, read_back, walk_text}
+use Rattle.c62_op.specs.declared.set.InstructionSet.{InstructionSet}
 
 -- what a text says that has no fault: these blocks, made of the cut of its lines
-record IsProgram (text : List ℕ) (blocks : List BlockParts) : Type 0 where
-  pub own : own_labels (blocks_from (lines_of text)) ≡ labels_of (lines_of text)
+record IsProgram (isa : InstructionSet) (text : List ℕ) (blocks : List BlockParts) : Type 0 where
+  pub own : own_labels (blocks_from isa (lines_of text)) ≡ labels_of (lines_of text)
   pub distinct : IsDistinct bytes_eq (labels_of (lines_of text))
-  pub fits : AllByRecursion (λ line. OkFits (labels_of (lines_of text)) (line_of line)) (lines_of text)
-  pub is : blocks ≡ map (block_in (blocks_from (lines_of text))) (blocks_from (lines_of text))
+  pub fits : AllByRecursion (λ line. OkFits (labels_of (lines_of text)) (line_of isa line)) (lines_of text)
+  pub is : blocks ≡ map (block_in (blocks_from isa (lines_of text))) (blocks_from isa (lines_of text))
 
-program_is_cut : (text : List ℕ) (blocks : List BlockParts) → program_in text ≡ Ok blocks → IsProgram text blocks
-program_is_cut text blocks e =
-    let read = read_back text blocks e in
-    let there = (walk_text (lines_of text)).1 read.0 read.1 in
-    let all = blocks_are (lines_of text) read.0 there.cuts in
+program_is_cut : (isa : InstructionSet) (text : List ℕ) (blocks : List BlockParts) → program_in isa text ≡ Ok blocks
+    → IsProgram isa text blocks
+program_is_cut isa text blocks e =
+    let read = read_back isa text blocks e in
+    let there = (walk_text isa (lines_of text)).1 read.0 read.1 in
+    let all = blocks_are isa (lines_of text) read.0 there.cuts in
     record { own = rw all there.own; distinct = there.distinct; fits = there.fits; is = rw all read.2 }
 
 -- ---- labels
 
-pub has_its_labels : (text : List ℕ) → HasItsLabels text
-has_its_labels text blocks e =
-    let program = program_is_cut text blocks e in
-    let drafts = blocks_from (lines_of text) in (
+pub has_its_labels : (isa : InstructionSet) (text : List ℕ) → HasItsLabels isa text
+has_its_labels isa text blocks e =
+    let program = program_is_cut isa text blocks e in
+    let drafts = blocks_from isa (lines_of text) in (
       rw program.is (flat_map-map (λ (block : BlockParts). option_to_list block.label) (block_in drafts) drafts
           ∙ program.own),
       program.distinct,
@@ -82,13 +84,13 @@ module _ (label : Name) where
         ),
       )
 
-pub has_targets : (text : List ℕ) → HasTargets text
-has_targets text blocks line label parts target e among jumps =
+pub has_targets : (isa : InstructionSet) (text : List ℕ) → HasTargets isa text
+has_targets isa text blocks line label parts target e among jumps =
     let labels = labels_of (lines_of text) in
-    let fits = All-from_recursion (λ line. OkFits labels (line_of line)) (lines_of text)
-    (program_is_cut text blocks e).fits in
-    let fit = rw jumps at (All-contains (λ line. OkFits labels (line_of line)) (lines_of text) line fits among) in
-    let known = ap (is_among target) (has_its_labels text blocks e).0 ∙ not-false (is_among target labels) fit.1 in
+    let fits = All-from_recursion (λ line. OkFits labels (line_of isa line)) (lines_of text)
+    (program_is_cut isa text blocks e).fits in
+    let fit = rw jumps at (All-contains (λ line. OkFits labels (line_of isa line)) (lines_of text) line fits among) in
+    let known = ap (is_among target) (has_its_labels isa text blocks e).0 ∙ not-false (is_among target labels) fit.1 in
     (found_at target blocks, (found target blocks known).1)
 
 -- ---- the blocks one after the other are the labels and instructions of the lines, with their targets' numbers
@@ -102,23 +104,23 @@ named drafts =
           (block_in drafts),
     ) refl)
 
-items_proper : (labels : List Name) (number : ℕ) (lines : List (List ℕ))
-    → AllByRecursion (λ line. OkFits labels (line_of line)) lines
-    → AllProper (items_from number lines)
-items_proper labels number [] fits = tt
-items_proper labels number (line ∷ lines) fits =
-    all_more _ (line_items number (line_of line)) _ (go (line_of line) fits.0)
-    (items_proper labels (number + 1) lines fits.1)
+items_proper : (isa : InstructionSet) (labels : List Name) (number : ℕ) (lines : List (List ℕ))
+    → AllByRecursion (λ line. OkFits labels (line_of isa line)) lines
+    → AllProper (items_from isa number lines)
+items_proper isa labels number [] fits = tt
+items_proper isa labels number (line ∷ lines) fits =
+    all_more _ (line_items number (line_of isa line)) _ (go (line_of isa line) fits.0)
+    (items_proper isa labels (number + 1) lines fits.1)
   where
     go : (found : Result (Option Name × Says) Cause) → OkFits labels found → AllProper (line_items number found)
     go found fit = grind arith
 
-program_items : (text : List ℕ) (blocks : List BlockParts) → IsProgram text blocks
-    → flat_map items_of blocks ≡ map (settled (block_named blocks)) (items_from 1 (lines_of text))
-program_items text blocks program =
-    rw (program.is, ← named (blocks_from (lines_of text)))
-    ((cut_is _ (items_from 1 (lines_of text))).0
-    (items_proper (labels_of (lines_of text)) 1 (lines_of text) program.fits))
+program_items : (isa : InstructionSet) (text : List ℕ) (blocks : List BlockParts) → IsProgram isa text blocks
+    → flat_map items_of blocks ≡ map (settled (block_named blocks)) (items_from isa 1 (lines_of text))
+program_items isa text blocks program =
+    rw (program.is, ← named (blocks_from isa (lines_of text)))
+    ((cut_is _ (items_from isa 1 (lines_of text))).0
+    (items_proper isa (labels_of (lines_of text)) 1 (lines_of text) program.fits))
 
 -- ---- instructions
 
@@ -138,21 +140,21 @@ runs_blocks (block ∷ blocks) =
     flat_map-append run_in (items_of block) (flat_map items_of blocks)
     ∙ rw (runs_block block.label block.insns, runs_blocks blocks) refl
 
-module _ (aim : Name → ℕ) where
+module _ (isa : InstructionSet) (aim : Name → ℕ) where
   runs_line : (number : ℕ) (said : Result (Option Name × Says) Cause)
       → flat_map run_in (map (settled aim) (line_items number said)) ≡ instruction_at aim number said
   runs_line number said = grind arith
 
   runs_lines : (number : ℕ) (lines : List (List ℕ))
-      → flat_map run_in (map (settled aim) (items_from number lines)) ≡ instructions_in aim number lines
+      → flat_map run_in (map (settled aim) (items_from isa number lines)) ≡ instructions_in isa aim number lines
   runs_lines number [] = refl
   runs_lines number (line ∷ lines) = simp
-      (map-append, flat_map-append, runs_line number (line_of line), runs_lines (number + 1) lines)
+      (map-append, flat_map-append, runs_line number (line_of isa line), runs_lines (number + 1) lines)
 
-pub is_its_lines : (text : List ℕ) → IsItsLines text
-is_its_lines text blocks e =
-    sym (runs_blocks blocks) ∙ ap (flat_map run_in) (program_items text blocks (program_is_cut text blocks e))
-    ∙ runs_lines (block_named blocks) 1 (lines_of text)
+pub is_its_lines : (isa : InstructionSet) (text : List ℕ) → IsItsLines isa text
+is_its_lines isa text blocks e =
+    sym (runs_blocks blocks) ∙ ap (flat_map run_in) (program_items isa text blocks (program_is_cut isa text blocks e))
+    ∙ runs_lines isa (block_named blocks) 1 (lines_of text)
 
 -- ---- the lines rise
 
@@ -180,15 +182,16 @@ first_rises aim n (Ok (label, Does parts)) others rise = rise_from n (numbers ot
 first_rises aim n (Ok (label, Jumps parts target)) others rise = rise_from n (numbers others) rise
 first_rises aim n said others rise = rise_before n (numbers others) rise
 
-all_rise : (aim : Name → ℕ) (n : ℕ) (lines : List (List ℕ)) → Rise n (numbers (instructions_in aim n lines))
-all_rise aim n [] = (λ k d inside. absurd (omega arith), λ i j d below inside. absurd (omega arith))
-all_rise aim n (line ∷ lines) = first_rises aim n (line_of line) (instructions_in aim (n + 1) lines)
-    (all_rise aim (n + 1) lines)
+all_rise : (isa : InstructionSet) (aim : Name → ℕ) (n : ℕ) (lines : List (List ℕ))
+    → Rise n (numbers (instructions_in isa aim n lines))
+all_rise isa aim n [] = (λ k d inside. absurd (omega arith), λ i j d below inside. absurd (omega arith))
+all_rise isa aim n (line ∷ lines) = first_rises aim n (line_of isa line) (instructions_in isa aim (n + 1) lines)
+    (all_rise isa aim (n + 1) lines)
 
-pub has_rising_lines : (text : List ℕ) → HasRisingLines text
-has_rising_lines text blocks e =
-    rw (is_its_lines text blocks e)
-    (λ k inside. (all_rise (block_named blocks) 1 (lines_of text)).1 k (k + 1) 0 (omega arith) inside)
+pub has_rising_lines : (isa : InstructionSet) (text : List ℕ) → HasRisingLines isa text
+has_rising_lines isa text blocks e =
+    rw (is_its_lines isa text blocks e)
+    (λ k inside. (all_rise isa (block_named blocks) 1 (lines_of text)).1 k (k + 1) 0 (omega arith) inside)
 
 -- ---- each reads as its line
 
@@ -197,41 +200,48 @@ said_here : (aim : Name → ℕ) (n : ℕ) (said : Result (Option Name × Says) 
     → (entry.line ≡ n) × (instruction_at aim n said ≡ entry ∷ [])
 said_here aim n said entry among = grind arith
 
-read_at : (aim : Name → ℕ) (n : ℕ) (lines : List (List ℕ)) (entry : Numbered)
-    → Contains (instructions_in aim n lines) entry
+read_at : (isa : InstructionSet) (aim : Name → ℕ) (n : ℕ) (lines : List (List ℕ)) (entry : Numbered)
+    → Contains (instructions_in isa aim n lines) entry
     → (index : ℕ) × (line : List ℕ) × (entry.line ≡ index + n) × (slice_get lines index ≡ Some line)
-    × (instruction_at aim entry.line (line_of line) ≡ entry ∷ [])
-read_at aim n [] entry among = absurd (omega (arith, among.1))
-read_at aim n (line ∷ lines) entry among =
-    elim (Contains-append_cases (instruction_at aim n (line_of line)) (instructions_in aim (n + 1) lines) entry among) [
+    × (instruction_at aim entry.line (line_of isa line) ≡ entry ∷ [])
+read_at isa aim n [] entry among = absurd (omega (arith, among.1))
+read_at isa aim n (line ∷ lines) entry among =
+    elim (Contains-append_cases (instruction_at aim n (line_of isa line))
+    (instructions_in isa aim (n + 1) lines) entry among) [
       | inl here ↦
-          let only = said_here aim n (line_of line) entry here in
-          (0, line, omega (arith, only.0), refl, ap (λ (m : ℕ). instruction_at aim m (line_of line)) only.0 ∙ only.1)
+          let only = said_here aim n (line_of isa line) entry here in (
+            0,
+            line,
+            omega (arith, only.0),
+            refl,
+            ap (λ (m : ℕ). instruction_at aim m (line_of isa line)) only.0
+                ∙ only.1,
+          )
       | inr later ↦
-          let there = read_at aim (n + 1) lines entry later in
+          let there = read_at isa aim (n + 1) lines entry later in
           (suc there.0, there.1, omega (arith, there.2), there.3, there.4)
     ]
 
-pub reads_as_its_line : (text : List ℕ) → ReadsAsItsLine text
-reads_as_its_line text blocks entry e among =
-    read_at (block_named blocks) 1 (lines_of text) entry
-    (subst (λ (entries : List Numbered). Contains entries entry) (is_its_lines text blocks e) among)
+pub reads_as_its_line : (isa : InstructionSet) (text : List ℕ) → ReadsAsItsLine isa text
+reads_as_its_line isa text blocks entry e among =
+    read_at isa (block_named blocks) 1 (lines_of text) entry
+    (subst (λ (entries : List Numbered). Contains entries entry) (is_its_lines isa text blocks e) among)
 
 -- ---- where blocks begin and end
 
-pub has_cut_blocks : (text : List ℕ) → HasCutBlocks text
-has_cut_blocks text blocks e =
-    let program = program_is_cut text blocks e in
-    let well = cut_is (blocks_from (lines_of text)) (items_from 1 (lines_of text)) in
+pub has_cut_blocks : (isa : InstructionSet) (text : List ℕ) → HasCutBlocks isa text
+has_cut_blocks isa text blocks e =
+    let program = program_is_cut isa text blocks e in
+    let well = cut_is (blocks_from isa (lines_of text)) (items_from isa 1 (lines_of text)) in
     record {
-      items = program_items text blocks program;
+      items = program_items isa text blocks program;
       begins = rw program.is well.1;
       ends = rw program.is (simp (list_all-map, map-map) well.2);
     }
 
 -- ---- every branch to a label goes to a block that is there and has a label
 
-module _ (labels : List (Option Name)) where
+module _ (isa : InstructionSet) (labels : List (Option Name)) where
   abbrev stands : Numbered → Bool
   stands entry = target_stands labels entry.parts.operands
 
@@ -245,25 +255,26 @@ module _ (labels : List (Option Name)) where
         → list_all stands (instruction_at aim number said) ≡ true
     said_stands number said fit = grind (arith, nat_tests, free_stands, aims)
 
-    lines_stand : (number : ℕ) (lines : List (List ℕ)) → AllByRecursion (λ line. OkFits names (line_of line)) lines
-        → list_all stands (instructions_in aim number lines) ≡ true
+    lines_stand : (number : ℕ) (lines : List (List ℕ)) → AllByRecursion (λ line. OkFits names (line_of isa line)) lines
+        → list_all stands (instructions_in isa aim number lines) ≡ true
     lines_stand number [] fits = refl
     lines_stand number (line ∷ lines) fits =
-        rw (list_all-append, said_stands number (line_of line) fits.0, lines_stand (number + 1) lines fits.1) refl
+        rw (list_all-append, said_stands number (line_of isa line) fits.0, lines_stand (number + 1) lines fits.1) refl
 
   blocks_stand : (blocks : List BlockParts)
       → list_all (λ (part : BlockParts). list_all stands part.insns) blocks ≡ list_all stands (instructions_of blocks)
   blocks_stand [] = refl
   blocks_stand (block ∷ blocks) = rw (list_all-append, blocks_stand blocks) refl
 
-pub targets_read : (text : List ℕ) (blocks : List Serial) → program_in text ≡ Ok (map block_parts blocks)
+pub targets_read : (isa : InstructionSet) (text : List ℕ) (blocks : List Serial)
+    → program_in isa text ≡ Ok (map block_parts blocks)
     → targets_stand blocks ≡ true
 unfolding targets_stand
-targets_read text blocks e =
+targets_read isa text blocks e =
     let parts : List BlockParts = map block_parts blocks in
     let labels : List (Option Name) = labels_in blocks in
-    let all = blocks_stand labels parts ∙ ap (list_all (stands labels)) (is_its_lines text parts e)
-    ∙ lines_stand labels (labels_of (lines_of text)) (block_named parts) (λ name known.
-    let there = found name parts (ap (is_among name) (has_its_labels text parts e).0 ∙ known) in
-    rw there.1 (rw map-map at there.0)) 1 (lines_of text) (program_is_cut text parts e).fits in
+    let all = blocks_stand isa labels parts ∙ ap (list_all (stands isa labels)) (is_its_lines isa text parts e)
+    ∙ lines_stand isa labels (labels_of (lines_of text)) (block_named parts) (λ name known.
+    let there = found name parts (ap (is_among name) (has_its_labels isa text parts e).0 ∙ known) in
+    rw there.1 (rw map-map at there.0)) 1 (lines_of text) (program_is_cut isa text parts e).fits in
     simp list_all-map at all

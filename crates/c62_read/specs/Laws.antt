@@ -9,10 +9,12 @@ use Rattle.c62_op.specs.declared.operands.Operands.TheVariants.{Block}
 use Rattle.c62_read.specs.Text.{lines_of}
 use Rattle.c62_line.specs.Laws.{IsReadable, IsRecased, target_in}
 use Rattle.c62_op.specs.Shape.{is_branch}
+use Rattle.c62_op.specs.Units.{is_taken_in}
 use Rattle.c62_line.specs.Line.{Parts, Says, Does, Jumps, line_of, label_field}
 use Rattle.c62_line.specs.declared.fault.Cause.{Cause}
 use Rattle.c62_read.specs.Block.{branch_last}
 use Rattle.c62_read.specs.Program.{BlockParts, Item, Name, Numbered, Runs, items_from, label_is, label_items, labels_of, most_bytes, program_in}
+use Rattle.c62_op.specs.declared.set.InstructionSet.{InstructionSet}
 
 -- ---- what says nothing
 
@@ -28,24 +30,24 @@ AreUncommented (line ∷ lines) (other ∷ others) = IsUncommented line other ×
 AreUncommented _ _ = ⊥
 
 -- a text says what it says without comments
-abbrev pub CommentsSayNothing : List ℕ → List ℕ → Type 0
-CommentsSayNothing text other =
-    length text ≤ most_bytes → length other ≤ most_bytes → AreUncommented (lines_of text) (lines_of other) → program_in text ≡ program_in other
+abbrev pub CommentsSayNothing : InstructionSet → List ℕ → List ℕ → Type 0
+CommentsSayNothing isa text other =
+    length text ≤ most_bytes → length other ≤ most_bytes → AreUncommented (lines_of text) (lines_of other) → program_in isa text ≡ program_in isa other
 
 -- ---- case
 
 -- the same but for the case of letters that are no label's
-abbrev pub AreRecased : List (List ℕ) → List (List ℕ) → Type 0
-AreRecased [] [] = Unit {0}
-AreRecased (line ∷ lines) (other ∷ others) =
+abbrev pub AreRecased : InstructionSet → List (List ℕ) → List (List ℕ) → Type 0
+AreRecased isa [] [] = Unit {0}
+AreRecased isa (line ∷ lines) (other ∷ others) =
     (IsRecased 32 line other × (label_field line ≡ label_field other)
-    × (target_in (line_of line) ≡ target_in (line_of other))) × AreRecased lines others
-AreRecased _ _ = ⊥
+    × (target_in (line_of isa line) ≡ target_in (line_of isa other))) × AreRecased isa lines others
+AreRecased isa _ _ = ⊥
 
 -- a text says what it says in any case of its letters, where labels keep theirs
-abbrev pub CaseChangesNothing : List ℕ → List ℕ → Type 0
-CaseChangesNothing text other =
-    length text ≤ most_bytes → length other ≤ most_bytes → AreRecased (lines_of text) (lines_of other) → program_in text ≡ program_in other
+abbrev pub CaseChangesNothing : InstructionSet → List ℕ → List ℕ → Type 0
+CaseChangesNothing isa text other =
+    length text ≤ most_bytes → length other ≤ most_bytes → AreRecased isa (lines_of text) (lines_of other) → program_in isa text ≡ program_in isa other
 
 -- ---- a program is its lines
 
@@ -60,37 +62,44 @@ instruction_at aim number (Ok (label, Jumps parts target)) = record { parts = re
 instruction_at aim number _ = []
 
 -- the instructions of these lines in their order, the first line having this number
-abbrev pub instructions_in : (Name → ℕ) → ℕ → List (List ℕ) → List Numbered
-instructions_in aim number [] = []
-instructions_in aim number (line ∷ lines) = instruction_at aim number (line_of line) ++ instructions_in aim (number + 1) lines
+abbrev pub instructions_in : InstructionSet → (Name → ℕ) → ℕ → List (List ℕ) → List Numbered
+instructions_in isa aim number [] = []
+instructions_in isa aim number (line ∷ lines) = instruction_at aim number (line_of isa line) ++ instructions_in isa aim (number + 1) lines
 
 -- the instructions of blocks, one after the other
 abbrev pub instructions_of : List BlockParts → List Numbered
 instructions_of blocks = flat_map (λ block. block.insns) blocks
 
 -- the instructions of a text's program are those of its lines
-abbrev pub IsItsLines : List ℕ → Type 0
-IsItsLines text =
-    (blocks : List BlockParts) → program_in text ≡ Ok blocks → instructions_of blocks ≡ instructions_in (block_named blocks) 1 (lines_of text)
+abbrev pub IsItsLines : InstructionSet → List ℕ → Type 0
+IsItsLines isa text =
+    (blocks : List BlockParts) → program_in isa text ≡ Ok blocks → instructions_of blocks ≡ instructions_in isa (block_named blocks) 1 (lines_of text)
+
+-- each instruction of a program is one of the set that its text is read in
+abbrev pub is_of : InstructionSet → Numbered → Bool
+is_of isa entry = is_taken_in isa entry.parts.op entry.parts.operands
+
+abbrev pub StaysInSet : InstructionSet → List ℕ → Type 0
+StaysInSet isa text = (blocks : List BlockParts) → program_in isa text ≡ Ok blocks → list_all (is_of isa) (instructions_of blocks) ≡ true
 
 -- each label that a line of a program jumps to is a block's
-abbrev pub HasTargets : List ℕ → Type 0
-HasTargets text =
-    (blocks : List BlockParts) (line : List ℕ) (label : Option Name) (parts : Parts) (target : Name) → program_in text ≡ Ok blocks
-    → Contains (lines_of text) line → line_of line ≡ Ok (label, Jumps parts target)
+abbrev pub HasTargets : InstructionSet → List ℕ → Type 0
+HasTargets isa text =
+    (blocks : List BlockParts) (line : List ℕ) (label : Option Name) (parts : Parts) (target : Name) → program_in isa text ≡ Ok blocks
+    → Contains (lines_of text) line → line_of isa line ≡ Ok (label, Jumps parts target)
     → (number : ℕ) × (position (λ block. label_is target block.label) blocks ≡ Some number)
 
 -- the lines of a program's instructions rise
-abbrev pub HasRisingLines : List ℕ → Type 0
-HasRisingLines text =
-    (blocks : List BlockParts) → program_in text ≡ Ok blocks → IsStrictlyIncreasing (map (λ entry. entry.line) (instructions_of blocks))
+abbrev pub HasRisingLines : InstructionSet → List ℕ → Type 0
+HasRisingLines isa text =
+    (blocks : List BlockParts) → program_in isa text ≡ Ok blocks → IsStrictlyIncreasing (map (λ entry. entry.line) (instructions_of blocks))
 
 -- each instruction of a program is what the text's line of its number says
-abbrev pub ReadsAsItsLine : List ℕ → Type 0
-ReadsAsItsLine text =
-    (blocks : List BlockParts) (entry : Numbered) → program_in text ≡ Ok blocks → Contains (instructions_of blocks) entry
+abbrev pub ReadsAsItsLine : InstructionSet → List ℕ → Type 0
+ReadsAsItsLine isa text =
+    (blocks : List BlockParts) (entry : Numbered) → program_in isa text ≡ Ok blocks → Contains (instructions_of blocks) entry
     → (index : ℕ) × (line : List ℕ) × (entry.line ≡ index + 1) × (slice_get (lines_of text) index ≡ Some line)
-    × (instruction_at (block_named blocks) entry.line (line_of line) ≡ entry ∷ [])
+    × (instruction_at (block_named blocks) entry.line (line_of isa line) ≡ entry ∷ [])
 
 -- ---- blocks are cut by labels and branches
 
@@ -120,20 +129,20 @@ begin_well behind_branch (block ∷ blocks) = may_begin behind_branch block.labe
 
 -- The blocks of a text are its labels and instructions in their order, cut before each label and behind each branch, and
 -- nowhere else: a label stands at the front of a block, a branch at its end.
-pub record IsCut (text : List ℕ) (blocks : List BlockParts) : Type 0 where
-  pub items : flat_map items_of blocks ≡ map (settled (block_named blocks)) (items_from 1 (lines_of text))
+pub record IsCut (isa : InstructionSet) (text : List ℕ) (blocks : List BlockParts) : Type 0 where
+  pub items : flat_map items_of blocks ≡ map (settled (block_named blocks)) (items_from isa 1 (lines_of text))
   pub begins : begin_well true blocks ≡ true
   pub ends : list_all (λ block. branch_last (map (λ entry. entry.parts.op) block.insns)) blocks ≡ true
 
-abbrev pub HasCutBlocks : List ℕ → Type 0
-HasCutBlocks text = (blocks : List BlockParts) → program_in text ≡ Ok blocks → IsCut text blocks
+abbrev pub HasCutBlocks : InstructionSet → List ℕ → Type 0
+HasCutBlocks isa text = (blocks : List BlockParts) → program_in isa text ≡ Ok blocks → IsCut isa text blocks
 
 -- ---- labels
 
 -- The labels of a program's blocks are those of its lines, in their order, and no two are the same.
-abbrev pub HasItsLabels : List ℕ → Type 0
-HasItsLabels text =
-    (blocks : List BlockParts) → program_in text ≡ Ok blocks
+abbrev pub HasItsLabels : InstructionSet → List ℕ → Type 0
+HasItsLabels isa text =
+    (blocks : List BlockParts) → program_in isa text ≡ Ok blocks
     → (flat_map (λ block. option_to_list block.label) blocks ≡ labels_of (lines_of text)) × IsDistinct bytes_eq (labels_of (lines_of text))
 
 -- ---- what is rewritten keeps its effect

@@ -14,6 +14,7 @@ use Rattle.c62_read.specs.Block.{Serial}
 use Rattle.c62_read.specs.Text.{lines_of}
 use Rattle.c62_op.specs.Shape.{is_branch}
 use Rattle.c62_line.specs.Line.{Parts, parts_of, Says, Nothing, Pause, Does, Jumps, head_of, line_of, label_field, fault_in}
+use Rattle.c62_op.specs.declared.set.InstructionSet.{InstructionSet}
 
 abbrev pub Name : Type 0
 Name = List ℕ
@@ -59,9 +60,9 @@ line_items number (Ok (label, says)) = label_items label ++ says_items number sa
 line_items number (Err cause) = []
 
 -- the labels and instructions of these lines in their order, the first line having this number
-abbrev pub items_from : ℕ → List (List ℕ) → List Item
-items_from number [] = []
-items_from number (line ∷ lines) = line_items number (line_of line) ++ items_from (number + 1) lines
+abbrev pub items_from : InstructionSet → ℕ → List (List ℕ) → List Item
+items_from isa number [] = []
+items_from isa number (line ∷ lines) = line_items number (line_of isa line) ++ items_from isa (number + 1) lines
 
 -- ---- blocks
 
@@ -94,8 +95,8 @@ cut [] = []
 cut (item ∷ items) = if ends_block item then piece_of item ∷ cut items else glue (piece_of item) (cut items)
 
 -- the blocks of a text's first lines
-abbrev pub blocks_from : List (List ℕ) → List Draft
-blocks_from lines = cut (items_from 1 lines)
+abbrev pub blocks_from : InstructionSet → List (List ℕ) → List Draft
+blocks_from isa lines = cut (items_from isa 1 lines)
 
 -- ---- faults
 
@@ -122,14 +123,14 @@ is_overfull draft = nat_lt MOST_INSTRUCTIONS (length draft.insns)
 -- What is wrong with a line that stands behind these, in the order in which it is told: the line's head by itself, a label
 -- that an earlier line has, the rest of the line by itself, a branch to no label of the text, the 257th instruction of a
 -- block, the 65th block.
-unfoldable pub fault_of : List Name → List (List ℕ) → List ℕ → Option Cause
-fault_of labels before line =
+unfoldable pub fault_of : InstructionSet → List Name → List (List ℕ) → List ℕ → Option Cause
+fault_of isa labels before line =
     first_of (fault_in (head_of line)
     ∷ fault_if (repeats_label (labels_of before) line) DuplicateLabel
-    ∷ fault_in (line_of line)
-    ∷ fault_if (misses_label labels (line_of line)) UnknownTarget
-    ∷ fault_if (list_any is_overfull (blocks_from (before ++ line ∷ []))) TooManyInstructions
-    ∷ fault_if (nat_lt MOST_BLOCKS (length (blocks_from (before ++ line ∷ [])))) TooManyBlocks
+    ∷ fault_in (line_of isa line)
+    ∷ fault_if (misses_label labels (line_of isa line)) UnknownTarget
+    ∷ fault_if (list_any is_overfull (blocks_from isa (before ++ line ∷ []))) TooManyInstructions
+    ∷ fault_if (nat_lt MOST_BLOCKS (length (blocks_from isa (before ++ line ∷ [])))) TooManyBlocks
     ∷ [])
 
 -- the number of a line, from 1, and its fault; a fault of no line has 0
@@ -137,10 +138,10 @@ abbrev pub Refusal : Type 0
 Refusal = ℕ × Cause
 
 -- the first faulty one of these lines, which stand behind others, with its fault
-unfoldable pub first_fault : List Name → List (List ℕ) → List (List ℕ) → Option Refusal
-first_fault labels before [] = None
-first_fault labels before (line ∷ lines) =
-    first_of (option_map (λ cause. (length before + 1, cause)) (fault_of labels before line) ∷ first_fault labels (before ++ line ∷ []) lines ∷ [])
+unfoldable pub first_fault : InstructionSet → List Name → List (List ℕ) → List (List ℕ) → Option Refusal
+first_fault isa labels before [] = None
+first_fault isa labels before (line ∷ lines) =
+    first_of (option_map (λ cause. (length before + 1, cause)) (fault_of isa labels before line) ∷ first_fault isa labels (before ++ line ∷ []) lines ∷ [])
 
 abbrev pub unless_refused : {T : Type 0} → Option Refusal → T → Result T Refusal
 unless_refused None value = Ok value
@@ -150,10 +151,10 @@ abbrev pub most_bytes : ℕ
 most_bytes = MOST_BYTES
 
 -- the blocks of a text with the labels that they branch to, or its first fault
-unfoldable pub drafts_in : List ℕ → Result (List Draft) Refusal
-drafts_in text =
+unfoldable pub drafts_in : InstructionSet → List ℕ → Result (List Draft) Refusal
+drafts_in isa text =
     if nat_lt most_bytes (length text) then Err (0, TextTooLong)
-    else unless_refused (first_fault (labels_of (lines_of text)) [] (lines_of text)) (blocks_from (lines_of text))
+    else unless_refused (first_fault isa (labels_of (lines_of text)) [] (lines_of text)) (blocks_from isa (lines_of text))
 
 -- ---- targets by number
 
@@ -187,8 +188,8 @@ and_then (Ok value) next = next value
 and_then (Err refusal) next = Err refusal
 
 -- what a text says: its blocks, or its first fault
-unfoldable pub program_in : List ℕ → Result (List BlockParts) Refusal
-program_in text = and_then (drafts_in text) (λ drafts. Ok (map (block_in drafts) drafts))
+unfoldable pub program_in : InstructionSet → List ℕ → Result (List BlockParts) Refusal
+program_in isa text = and_then (drafts_in isa text) (λ drafts. Ok (map (block_in drafts) drafts))
 
 -- ---- what a call answers
 

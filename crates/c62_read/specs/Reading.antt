@@ -15,10 +15,11 @@ use Rattle.c62_line.specs.Line.{Says, parts_of, statement_of}
 use Rattle.c62_read.specs.Walk.{Asked, Drafts, Step, add_line, add_lines, add_says, all_drafts, asked_in, asked_of, closed, draft_of, drafts_of}
 use Rattle.c62_read.specs.Walk.{missed, no_drafts, opened, own_labels, refused, unless_hindered, with_insn}
 use Rattle.c62_read.specs.Program.{BlockParts, Draft, Name, Refusal, aimed, block_in, labels_of}
+use Rattle.c62_op.specs.declared.set.InstructionSet.{InstructionSet}
 
 -- what a line does to the blocks that were read before it
-abbrev pub line_step : ℕ → List ℕ → TextReader → Step
-line_step number line text = add_line number line (drafts_of text)
+abbrev pub line_step : InstructionSet → ℕ → List ℕ → TextReader → Step
+line_step isa number line text = add_line isa number line (drafts_of text)
 
 -- what a label and what stands behind it do to them
 abbrev pub said_step : ℕ → Option (Bor (List ℕ)) → Statement → TextReader → Step
@@ -32,14 +33,14 @@ LeadsTo step fault text = step.drafts ≡ unless_hindered fault (drafts_of text)
 abbrev pub KeepsJump : ℕ → Says → List Jump → List Jump → Type 0
 KeepsJump number says old new = map asked_of new ≡ map asked_of old ++ asked_in number says
 
-abbrev pub KeepsJumpOf : ℕ → List ℕ → TextReader → List Jump → List Jump → Type 0
-KeepsJumpOf number line text old new = KeepsJump number (line_step number line text).says old new
+abbrev pub KeepsJumpOf : InstructionSet → ℕ → List ℕ → TextReader → List Jump → List Jump → Type 0
+KeepsJumpOf isa number line text old new = KeepsJump number (line_step isa number line text).says old new
 
 -- a line of this number comes to what its label and the rest say, or to this fault
-abbrev pub SaysAtLine : ℕ → List ℕ → TextReader → Result (Option (Bor (List ℕ)) × Statement) Cause → Type 0
-SaysAtLine number line text judged = MatchResult judged
-    (λ found. line_step number line text ≡ said_step number found.0 found.1 text)
-    (λ cause. line_step number line text ≡ refused cause)
+abbrev pub SaysAtLine : InstructionSet → ℕ → List ℕ → TextReader → Result (Option (Bor (List ℕ)) × Statement) Cause → Type 0
+SaysAtLine isa number line text judged = MatchResult judged
+    (λ found. line_step isa number line text ≡ said_step number found.0 found.1 text)
+    (λ cause. line_step isa number line text ≡ refused cause)
 
 -- the branches that wait are left that go to none of these labels
 abbrev pub LeavesOut : List Name → List Jump → List Jump → Type 0
@@ -50,8 +51,8 @@ abbrev pub still_missed : TextReader → List ℕ → List Jump → List Asked
 still_missed text rest jumps = missed (own_labels (all_drafts (drafts_of text)) ++ labels_of (lines_of rest)) (map asked_of jumps)
 
 -- the blocks that the lines of a text say, or its first fault
-abbrev pub text_read : List ℕ → Result Drafts Refusal
-text_read text = add_lines (labels_of (lines_of text)) 1 (lines_of text) no_drafts
+abbrev pub text_read : InstructionSet → List ℕ → Result Drafts Refusal
+text_read isa text = add_lines isa (labels_of (lines_of text)) 1 (lines_of text) no_drafts
 
 -- the first line of a text and the text behind it, where it has a line
 abbrev pub IsFirstLine : Option (Bor (List ℕ) × Bor (List ℕ)) → List (List ℕ) → Type 0

@@ -16,6 +16,7 @@ use Rattle.c62_read.specs.Block.{branch_last}
 use Rattle.c62_op.specs.Shape.{is_branch}
 use Rattle.c62_line.specs.Line.{Parts, Says, Nothing, Pause, Does, Jumps, head_of, rest_says}
 use Rattle.c62_read.specs.Program.{Name, Draft, Refusal, and_then, is_among, label_is, numbered_of}
+use Rattle.c62_op.specs.declared.set.InstructionSet.{InstructionSet}
 
 -- the blocks that are whole, and the one that the next instruction goes into
 pub record Drafts : Type 0 where
@@ -128,13 +129,13 @@ add_says number label drafts (Err cause) = refused cause
 add_says number label drafts (Ok says) =
     record { says = says; drafts = unless_hindered (hindrance label says drafts) (with_says number says (with_label label drafts)) }
 
-abbrev pub add_head : ℕ → Drafts → Result (Option Name × List (List ℕ)) Cause → Step
-add_head number drafts (Err cause) = refused cause
-add_head number drafts (Ok (label, words)) =
-    if is_taken label drafts then refused DuplicateLabel else add_says number label drafts (rest_says words)
+abbrev pub add_head : InstructionSet → ℕ → Drafts → Result (Option Name × List (List ℕ)) Cause → Step
+add_head isa number drafts (Err cause) = refused cause
+add_head isa number drafts (Ok (label, words)) =
+    if is_taken label drafts then refused DuplicateLabel else add_says number label drafts (rest_says isa words)
 
-unfoldable pub add_line : ℕ → List ℕ → Drafts → Step
-add_line number line drafts = add_head number drafts (head_of line)
+unfoldable pub add_line : InstructionSet → ℕ → List ℕ → Drafts → Step
+add_line isa number line drafts = add_head isa number drafts (head_of line)
 
 abbrev pub at_line : {T : Type 0} → ℕ → Result T Cause → Result T Refusal
 at_line number (Ok value) = Ok value
@@ -147,10 +148,10 @@ after_step labels number step next =
 
 -- The blocks with what these lines say, of which the first has this number, or the first faulty line with its fault. The labels
 -- are those of the text.
-unfoldable pub add_lines : List Name → ℕ → List (List ℕ) → Drafts → Result Drafts Refusal
-add_lines labels number [] drafts = Ok drafts
-add_lines labels number (line ∷ lines) drafts =
-    after_step labels number (add_line number line drafts) (λ more. add_lines labels (number + 1) lines more)
+unfoldable pub add_lines : InstructionSet → List Name → ℕ → List (List ℕ) → Drafts → Result Drafts Refusal
+add_lines isa labels number [] drafts = Ok drafts
+add_lines isa labels number (line ∷ lines) drafts =
+    after_step labels number (add_line isa number line drafts) (λ more. add_lines isa labels (number + 1) lines more)
 
 abbrev pub no_drafts : Drafts
 no_drafts = record { done = []; current = None }

@@ -19,9 +19,9 @@ pub use c62_token::{
     tokens_are_the_longest,
 };
 pub use laws::{
-    a_program_is_its_lines, blocks_are_cut_by_labels_and_branches, branches_have_targets,
-    case_changes_no_program, comments_change_no_program, instructions_read_as_their_lines,
-    labels_are_distinct, limits_are, lines_rise,
+    a_program_is_its_lines, a_program_stays_in_its_set, blocks_are_cut_by_labels_and_branches,
+    branches_have_targets, case_changes_no_program, comments_change_no_program,
+    instructions_read_as_their_lines, labels_are_distinct, limits_are, lines_rise,
 };
 pub use limits::{MOST_BLOCKS, MOST_BYTES, MOST_INSTRUCTIONS};
 pub use program::{BlockReader, TextReader, first_line, label_is, read_program, without_return};

@@ -16,6 +16,7 @@ use c62_line::{
     Cause, Label, ReadFault, Statement, copied_label, label_field, owned_label, read_head,
     read_rest,
 };
+use c62_op::InstructionSet;
 use memchr::memchr;
 use std::alloc::{AllocError, Global};
 
@@ -238,8 +239,12 @@ impl TextReader {
     /// What a line of the text says by itself, where no earlier line has its label.
     #[inline(always)]
     #[tactic(auto, unfolding(crate::specs::Walk::add_line))]
-    pub fn judge<'a>(&self, line: &'a [u8]) -> Result<(Option<&'a [u8]>, Statement<'a>), Cause>
-        ensures said { (number : ℕ) → SaysAtLine number line.now self.now result }
+    pub fn judge<'a>(
+        &self,
+        isa: InstructionSet,
+        line: &'a [u8],
+    ) -> Result<(Option<&'a [u8]>, Statement<'a>), Cause>
+        ensures said { (number : ℕ) → SaysAtLine isa number line.now self.now result }
         ensures label { IfOk result (λ found. IfSome found.0 (λ word. IsTrue (is_label word.now))) }
         ensures target { IfOk result (λ found. IsTrue (names_label found.1)) }
     {
@@ -247,7 +252,7 @@ impl TextReader {
         if self.is_taken(label) {
             return Err(Cause::DuplicateLabel);
         }
-        Ok((label, read_rest(rest)?))
+        Ok((label, read_rest(isa, rest)?))
     }
 
     /// Adds what a line says, or answers what stands against it.
@@ -275,16 +280,17 @@ impl TextReader {
 
     fn add_text(
         &mut self,
+        isa: InstructionSet,
         alloc: Global,
         jumps: &mut Vec<Jump>,
         number: u32,
         line: &[u8],
     ) -> Result<Option<Cause>, AllocError>
-        ensures said { IfOk result (λ fault. LeadsTo (line_step number line.now self.old) fault self.new) }
-        ensures asked { OnOk result (KeepsJumpOf number line.now self.old jumps.old.items jumps.new.items) }
+        ensures said { IfOk result (λ fault. LeadsTo (line_step isa number line.now self.old) fault self.new) }
+        ensures asked { OnOk result (KeepsJumpOf isa number line.now self.old jumps.old.items jumps.new.items) }
         ensures kept { IfOk result (λ fault. IfSome fault (λ _. drafts_of self.new ≡ drafts_of self.old)) }
     {
-        match self.judge(line) {
+        match self.judge(isa, line) {
             Ok((label, what)) => {
                 keep_jump(jumps, number, &what)?;
                 self.add_said(alloc, number, label, what)
@@ -297,19 +303,20 @@ impl TextReader {
     /// line but for that label.
     fn add_line(
         &mut self,
+        isa: InstructionSet,
         alloc: Global,
         jumps: &mut Vec<Jump>,
         number: u32,
         line: &[u8],
     ) -> Result<Option<Cause>, AllocError>
-        ensures said { IfOk result (λ fault. LeadsTo (line_step number line.now self.old) fault self.new) }
-        ensures asked { OnOk result (KeepsJumpOf number line.now self.old jumps.old.items jumps.new.items) }
+        ensures said { IfOk result (λ fault. LeadsTo (line_step isa number line.now self.old) fault self.new) }
+        ensures asked { OnOk result (KeepsJumpOf isa number line.now self.old jumps.old.items jumps.new.items) }
         ensures kept { IfOk result (λ fault. IfSome fault (λ _. drafts_of self.new ≡ drafts_of self.old)) }
     {
         match line {
             // An empty line says nothing.
             [] => Ok(None),
-            [_, ..] => self.add_text(alloc, jumps, number, line),
+            [_, ..] => self.add_text(isa, alloc, jumps, number, line),
         }
     }
 
@@ -397,19 +404,19 @@ fn earlier(missed: Option<u32>, line: u32, cause: Cause) -> ReadFault
 }
 
 /// The blocks of a text as they are read.
-fn read_drafts(alloc: Global, text: &[u8]) -> Result<TextReader, ReadFault>
+fn read_drafts(isa: InstructionSet, alloc: Global, text: &[u8]) -> Result<TextReader, ReadFault>
     requires { length text.now ≤ MOST_BYTES }
     ensures few { IfOk result (λ reader. length (all_drafts (drafts_of reader)) ≤ MOST_BLOCKS) }
     ensures whole { IfOk result (λ reader. IsTrue (list_all is_whole (all_drafts (drafts_of reader)))) }
-    ensures ok { IfOk result (λ reader. text_read text.now ≡ Ok (drafts_of reader)) }
-    ensures err { IfErr result (λ fault. Fails fault (text_read text.now)) }
+    ensures ok { IfOk result (λ reader. text_read isa text.now ≡ Ok (drafts_of reader)) }
+    ensures err { IfErr result (λ fault. Fails fault (text_read isa text.now)) }
 {
     let mut reader = TextReader::new(alloc);
     let mut jumps = Vec::new(alloc);
     let mut rest = text;
     let mut number = 1;
     while let Some((line, after)) = first_line(rest) {
-        match reader.add_line(alloc, &mut jumps, number, line)? {
+        match reader.add_line(isa, alloc, &mut jumps, number, line)? {
             None => {
                 number += 1;
                 rest = after;
@@ -481,14 +488,14 @@ fn all_blocks(alloc: Global, blocks: Vec<BlockReader>) -> Result<Vec<Block>, All
 ///
 /// The fault of the first faulty line. Of a text that is too long it is `TextTooLong`, and where memory ran out `Memory`, both at
 /// line 0.
-pub fn read_program(alloc: Global, text: &[u8]) -> Result<Program, ReadFault>
-    ensures ok { IfOk result (λ program. program_in text.now ≡ Ok (map block_parts program)) }
-    ensures err { IfErr result (λ fault. Fails fault (program_in text.now)) }
+pub fn read_program(isa: InstructionSet, alloc: Global, text: &[u8]) -> Result<Program, ReadFault>
+    ensures ok { IfOk result (λ program. program_in isa text.now ≡ Ok (map block_parts program)) }
+    ensures err { IfErr result (λ fault. Fails fault (program_in isa text.now)) }
 {
     if text.len() > MOST_BYTES {
         return Err(ReadFault::at(0, Cause::TextTooLong));
     }
-    let mut reader = read_drafts(alloc, text)?;
+    let mut reader = read_drafts(isa, alloc, text)?;
     reader.end_block()?;
     Ok(Program::new(all_blocks(alloc, reader.done)?))
 }

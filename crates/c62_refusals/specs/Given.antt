@@ -1,5 +1,6 @@
 -- What calls are made on.
 use Rattle.std.specs.Prelude.{◌≡◌, ◌≢◌, ℕ, ◌-◌, ◌≤◌, List, [], ◌∷◌, All, length, map, take, Some, Ok, Contains, min}
+use Rattle.c62_op.specs.declared.set.InstructionSet.TheVariants.{Core}
 use Rattle.c62_read.specs.Block.{Serial}
 use Rattle.c62_read.specs.Program.{program_in, block_parts}
 use Rattle.c62_board.specs.declared.turn.Turn.{Turn}
@@ -12,7 +13,7 @@ use Rattle.c62_refusals.specs.declared.given.TheConstants.{BUDGET, BEGUN}
 
 -- the text says this program
 abbrev pub SaysProgram : List ℕ → List Serial → Type 0
-SaysProgram text program = program_in text ≡ Ok (map block_parts program)
+SaysProgram text program = program_in Core text ≡ Ok (map block_parts program)
 
 -- a block of the program, and none is longer
 pub record IsLongest (program : List Serial) (block : Serial) : Type 0 where

@@ -10,6 +10,7 @@ ghost use Rattle.c62_refusals.specs.Given.{SaysProgram, IsLongest, IsLongestIn, 
 use c62_board::{Board, Entry, Turn};
 use c62_depend::Plan;
 use c62_listing::list;
+use c62_op::InstructionSet;
 use c62_pack::packets_of;
 use c62_packet::{PacketBlock, Packets};
 use c62_read::{Block, MOST_BLOCKS, Program, read_program};
@@ -26,7 +27,7 @@ const BEGUN: usize = 8;
 pub(crate) fn program_of(alloc: Global, text: &str) -> Option<Program>
     ensures { IfSome result (SaysProgram text.now) }
 {
-    match read_program(alloc, text.as_bytes()) {
+    match read_program(InstructionSet::Core, alloc, text.as_bytes()) {
         Ok(program) => Some(program),
         Err(_) => None,
     }

@@ -9,20 +9,30 @@ use c62_check::check;
 use c62_depend::Plan;
 use c62_listing::list;
 use c62_listing_reader::read_listing;
+use c62_op::InstructionSet;
 use c62_read::{Block, read_program};
 use c62_seen::look_at;
 use std::alloc::Global;
 
 /// Reads a text.
 pub(crate) fn reads_program(alloc: Global, text: &'static str) -> Option<Came> {
-    twice((), |_| answered(&read_program(alloc, text.as_bytes()), &()))
+    twice(
+        (),
+        |_| answered(
+            &read_program(InstructionSet::Core, alloc, text.as_bytes()),
+            &(),
+        ),
+    )
 }
 
 /// Reads the listing of a text's packets.
 pub(crate) fn reads_listing(alloc: Global, text: &str) -> Option<Came> {
     twice(
         listing_of(alloc, &packets_in(alloc, text)?)?,
-        |listing| answered(&read_listing(alloc, listing.as_bytes()), &()),
+        |listing| answered(
+            &read_listing(InstructionSet::Core, alloc, listing.as_bytes()),
+            &(),
+        ),
     )
 }
 

@@ -29,6 +29,7 @@ use Rattle.c62_rows.specs.Read.{TellsOfInsn, TellsOfSays, TellsOfSaid, TellsOfLi
 use Rattle.c62_rows.proofs.SmallLemmas.{at_ready}
 use Rattle.c62_rows.proofs.SoundLemmas.{free_room, room_at}
 use Rattle.c62_rows.specs.declared.reader.TheConstants.{MOST_TARGETS}
+use Rattle.c62_op.specs.declared.set.InstructionSet.{InstructionSet}
 
 abbrev pub InsnTold : Numbered → Reading → Reading → Option RowsCause → Type 0
 InsnTold entry old new told = MatchOption told (AddsInsn entry old new) (Breaks entry old)
@@ -120,27 +121,29 @@ said_told number said old mid new None free there adds =
 said_told number said old mid new (Some cause) free there breaks =
     inr (free, subst (λ (m : Reading). SaysBreach number said.word said.line.says m cause) there breaks)
 
-pub line_told : (number : ℕ) (bytes : List ℕ) (said : Said) (old new : Reading) (told : Option RowsCause)
-    → row_says bytes ≡ Ok said
+pub line_told : (isa : InstructionSet) (number : ℕ) (bytes : List ℕ) (said : Said) (old new : Reading)
+    (told : Option RowsCause)
+    → row_says isa bytes ≡ Ok said
     → MatchOption told (AddsSaid number said old new) (RefusesSaid number said old)
-    → MatchOption told (AddsShortLine number bytes old new) (RefusesLine number bytes old)
-line_told number bytes said old new None says adds =
+    → MatchOption told (AddsShortLine isa number bytes old new) (RefusesLine isa number bytes old)
+line_told isa number bytes said old new None says adds =
     record {
       adds = record { said = said; says = says; free = adds.free; adds = adds.adds.adds };
       short =
           adds.adds.short;
     }
-line_told number bytes said old new (Some cause) says refuses = inr
+line_told isa number bytes said old new (Some cause) says refuses = inr
     (record { said = said; says = says; hindered = refuses })
 
-pub fault_told : (number : ℕ) (bytes : List ℕ) (fault : LineFault) (cause : RowsCause) (old : Reading)
-    → row_says bytes ≡ Err fault → cause ≡ OfLine fault
-    → RefusesLine number bytes old cause
-fault_told number bytes fault cause old says is = inl (record { fault = fault; says = says; told = is })
+pub fault_told : (isa : InstructionSet) (number : ℕ) (bytes : List ℕ) (fault : LineFault) (cause : RowsCause)
+    (old : Reading)
+    → row_says isa bytes ≡ Err fault → cause ≡ OfLine fault
+    → RefusesLine isa number bytes old cause
+fault_told isa number bytes fault cause old says is = inl (record { fault = fault; says = says; told = is })
 
 -- ---- the same of what the steps answer
 
-module _ (old new : Reader) (result : Result (Option RowsCause) AllocError) where
+module _ (isa : InstructionSet) (old new : Reader) (result : Result (Option RowsCause) AllocError) where
   pub worded_ok : (mid : Reader) (number : ℕ) (word : Option Name) (insn : Insn)
       → reading_of mid ≡ with_named word number (reading_of old)
       → IfOk result (TellsOfInsn (numbered number (parts_of insn)) mid new)
@@ -178,21 +181,22 @@ module _ (old new : Reader) (result : Result (Option RowsCause) AllocError) wher
       on (Ok told) is = said_told number said (reading_of old) (reading_of mid) (reading_of new) told free there is
       on (Err e) is = tt
 
-  pub line_ok : (number : ℕ) (bytes : List ℕ) (said : Said) → row_says bytes ≡ Ok said
+  pub line_ok : (number : ℕ) (bytes : List ℕ) (said : Said) → row_says isa bytes ≡ Ok said
       → IfOk result (TellsOfSaid number said old new)
-      → IfOk result (TellsOfLine number bytes old new)
+      → IfOk result (TellsOfLine isa number bytes old new)
   line_ok number bytes said says tells = on result tells
     where
       on : (r : Result (Option RowsCause) AllocError) → IfOk r (TellsOfSaid number said old new)
-          → IfOk r (TellsOfLine number bytes old new)
-      on (Ok told) is = line_told number bytes said (reading_of old) (reading_of new) told says is
+          → IfOk r (TellsOfLine isa number bytes old new)
+      on (Ok told) is = line_told isa number bytes said (reading_of old) (reading_of new) told says is
       on (Err e) is = tt
 
-pub fault_refuses : (number : ℕ) (bytes : List ℕ) (fault : LineFault) (cause : RowsCause) (old : Reading)
-    → Fails fault (row_says bytes)
-    → (fault ≡ Memory → ⊥) → cause ≡ OfLine fault → RefusesLine number bytes old cause
-fault_refuses number bytes fault cause old (inl memory) known is = absurd (known memory)
-fault_refuses number bytes fault cause old (inr says) known is = fault_told number bytes fault cause old says is
+pub fault_refuses : (isa : InstructionSet) (number : ℕ) (bytes : List ℕ) (fault : LineFault) (cause : RowsCause)
+    (old : Reading)
+    → Fails fault (row_says isa bytes)
+    → (fault ≡ Memory → ⊥) → cause ≡ OfLine fault → RefusesLine isa number bytes old cause
+fault_refuses isa number bytes fault cause old (inl memory) known is = absurd (known memory)
+fault_refuses isa number bytes fault cause old (inr says) known is = fault_told isa number bytes fault cause old says is
 
 -- ---- what the steps ask
 
@@ -200,31 +204,34 @@ pub room_for : (name : Name) (reading : Reading) → is_beyond name reading ≡ 
     → length reading.targets < MOST_TARGETS
 room_for name reading room none = grind (arith, nat_tests, none, room)
 
-whole_unit : (bytes : List ℕ) (word : Option Name) (line : Line) (said : Said) → line_says bytes ≡ Ok line
+whole_unit : (isa : InstructionSet) (bytes : List ℕ) (word : Option Name) (line : Line) (said : Said)
+    → line_says isa bytes ≡ Ok line
     → said_with word (Ok line) ≡ Ok said
     → HasUnit said.line.says
-whole_unit bytes word line said is says =
+whole_unit isa bytes word line said is says =
     let same : line ≡ said.line = grind (arith, says) in
-    subst (λ (l : Line). HasUnit l.says) same (line_whole bytes line is).unit
+    subst (λ (l : Line). HasUnit l.says) same (line_whole isa bytes line is).unit
 
-label_unit : (bytes : List ℕ) (said : Said) (fault : LineFault) (label : Option Name) (r : Result Line LineFault)
-    → line_says (zeroed bytes) ≡ r
-    → of_label bytes fault label ≡ Ok said → HasUnit said.line.says
-label_unit bytes said fault None r is says = absurd cc
-label_unit bytes said fault (Some name) (Ok line) is says =
-    whole_unit (zeroed bytes) (Some name) line said is (ap (said_with (Some name)) (sym is) ∙ says)
-label_unit bytes said fault (Some name) (Err other) is says = absurd (grind (arith, is, says))
+label_unit : (isa : InstructionSet) (bytes : List ℕ) (said : Said) (fault : LineFault) (label : Option Name)
+    (r : Result Line LineFault)
+    → line_says isa (zeroed bytes) ≡ r
+    → of_label isa bytes fault label ≡ Ok said → HasUnit said.line.says
+label_unit isa bytes said fault None r is says = absurd cc
+label_unit isa bytes said fault (Some name) (Ok line) is says =
+    whole_unit isa (zeroed bytes) (Some name) line said is (ap (said_with (Some name)) (sym is) ∙ says)
+label_unit isa bytes said fault (Some name) (Err other) is says = absurd (grind (arith, is, says))
 
-said_unit : (bytes : List ℕ) (said : Said) (r : Result Line LineFault) → line_says bytes ≡ r
-    → or_label bytes r ≡ Ok said → HasUnit said.line.says
-said_unit bytes said (Ok line) is says = whole_unit bytes None line said is says
-said_unit bytes said (Err fault) is says = label_unit bytes said fault (label_in fault bytes) (line_says (zeroed bytes))
+said_unit : (isa : InstructionSet) (bytes : List ℕ) (said : Said) (r : Result Line LineFault) → line_says isa bytes ≡ r
+    → or_label isa bytes r ≡ Ok said → HasUnit said.line.says
+said_unit isa bytes said (Ok line) is says = whole_unit isa bytes None line said is says
+said_unit isa bytes said (Err fault) is says =
+    label_unit isa bytes said fault (label_in fault bytes) (line_says isa (zeroed bytes))
     refl says
 
-pub unit_there : (bytes : List ℕ) (said : SaidRead) → row_says bytes ≡ Ok (said_read said)
+pub unit_there : (isa : InstructionSet) (bytes : List ℕ) (said : SaidRead) → row_says isa bytes ≡ Ok (said_read said)
     → HasUnit (said_of said.line.what)
 unfolding row_says
-unit_there bytes said says = said_unit bytes (said_read said) (line_says bytes) refl says
+unit_there isa bytes said says = said_unit isa bytes (said_read said) (line_says isa bytes) refl says
 
 pub label_free : (said : Said) (reading : Reading) → hindrance said reading ≡ None
     → is_given said.line.label reading ≡ false

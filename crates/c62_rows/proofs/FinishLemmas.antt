@@ -16,11 +16,13 @@ use Rattle.c62_rows.specs.Sound.{IsSound}
 use Rattle.c62_rows.proofs.SoundLemmas.{rows_are}
 use Rattle.c62_rows.proofs.Worded.{rows_worded, same_count}
 use Rattle.c62_adopt_cut.specs.declared.text.TheConstants.{MOST_BYTES}
+use Rattle.c62_op.specs.declared.set.InstructionSet.{InstructionSet}
 
-pub finished_as : (text : List ℕ) (old new : Reading) (read : RowsText) → IsReading text old → IsSound old
+pub finished_as : (isa : InstructionSet) (text : List ℕ) (old new : Reading) (read : RowsText) → IsReading isa text old
+    → IsSound old
     → length (all_rows old) ≤ MOST_BYTES
-    → new ≡ closed old → Collects new read → ReadsAs text read
-finished_as text old new read reads sound few is collects =
+    → new ≡ closed old → Collects new read → ReadsAs isa text read
+finished_as isa text old new read reads sound few is collects =
     record {
       is_text = record {
         reading = old;
@@ -52,38 +54,42 @@ finished_as text old new read reads sound few is collects =
     there = subst (λ (r : Reading). Collects r read) is collects
 
 -- where a label isn't found, that is the fault
-pub loses : (text : List ℕ) (old new : Reading) (fault : RowsFault) → IsReading text old → new ≡ closed old
+pub loses : (isa : InstructionSet) (text : List ℕ) (old new : Reading) (fault : RowsFault) → IsReading isa text old
+    → new ≡ closed old
     → LosesTarget new.targets new.labels fault
-    → Refuses text fault
-loses text old new (At line cause) reads is lost =
+    → Refuses isa text fault
+loses isa text old new (At line cause) reads is lost =
     inr (inr (record {
       reading = old;
       reads = reads;
       lost = subst
           (λ (r : Reading). LosesTarget r.targets r.labels (At line cause)) is lost;
     }))
-loses text old new From reads is lost = absurd lost
-loses text old new Memory reads is lost = tt
+loses isa text old new From reads is lost = absurd lost
+loses isa text old new Memory reads is lost = tt
 
 -- ---- where a run begins
 
-pub begins_as : (text : List ℕ) (from : Option Name) (read : RowsText) (row : Option ℕ) (first : ℕ) → ReadsAs text read
+pub begins_as : (isa : InstructionSet) (text : List ℕ) (from : Option Name) (read : RowsText) (row : Option ℕ)
+    (first : ℕ) → ReadsAs isa text read
     → row ≡ first_row from (names_of read)
-    → row ≡ Some first → BeginsAs text from (record { rows = read.rows; first = first; labels = read.labels })
-begins_as text from read row first reads is some = record {
+    → row ≡ Some first → BeginsAs isa text from (record { rows = read.rows; first = first; labels = read.labels })
+begins_as isa text from read row first reads is some = record {
   is_text = record { labels = names_of read; is_text = reads.is_text; begins = sym is ∙ some };
   named = refl;
   rows = reads.rows;
 }
 
-pub lacks_start : (text : List ℕ) (from : Option Name) (read : RowsText) (row : Option ℕ) → ReadsAs text read
+pub lacks_start : (isa : InstructionSet) (text : List ℕ) (from : Option Name) (read : RowsText) (row : Option ℕ)
+    → ReadsAs isa text read
     → row ≡ first_row from (names_of read)
-    → row ≡ None → LacksStart text from
-lacks_start text from read row reads is none =
+    → row ≡ None → LacksStart isa text from
+lacks_start isa text from read row reads is none =
     record { flying = text_of read.rows; labels = names_of read; is_text = reads.is_text; lacks = sym is ∙ none }
 
-pub refuses_first : (text : List ℕ) (from : Option Name) (fault : RowsFault) → Refuses text fault
-    → RefusesFrom text from fault
-refuses_first text from (At line cause) is = is
-refuses_first text from From is = absurd is
-refuses_first text from Memory is = tt
+pub refuses_first : (isa : InstructionSet) (text : List ℕ) (from : Option Name) (fault : RowsFault)
+    → Refuses isa text fault
+    → RefusesFrom isa text from fault
+refuses_first isa text from (At line cause) is = is
+refuses_first isa text from From is = absurd is
+refuses_first isa text from Memory is = tt

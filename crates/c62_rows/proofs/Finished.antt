@@ -10,11 +10,14 @@ use Rattle.c62_rows.specs.Collected.{Collects}
 use Rattle.c62_rows.specs.Sound.{IsSound}
 use Rattle.c62_rows.proofs.FinishLemmas.{finished_as, loses}
 use Rattle.c62_adopt_cut.specs.declared.text.TheConstants.{MOST_BYTES}
+use Rattle.c62_op.specs.declared.set.InstructionSet.{InstructionSet}
 
-pub finish_told : (text : List ℕ) (old mid : Reading) (result : Result RowsText RowsFault) → IsReading text old
+pub finish_told : (isa : InstructionSet) (text : List ℕ) (old mid : Reading) (result : Result RowsText RowsFault)
+    → IsReading isa text old
     → IsSound old
     → length (all_rows old) ≤ MOST_BYTES → mid ≡ closed old
     → MatchResult result (Collects mid) (LosesTarget mid.targets mid.labels)
-    → MatchResult result (ReadsAs text) (Refuses text)
-finish_told text old mid (Ok read) reads sound few there is = finished_as text old mid read reads sound few there is
-finish_told text old mid (Err fault) reads sound few there lost = loses text old mid fault reads there lost
+    → MatchResult result (ReadsAs isa text) (Refuses isa text)
+finish_told isa text old mid (Ok read) reads sound few there is =
+    finished_as isa text old mid read reads sound few there is
+finish_told isa text old mid (Err fault) reads sound few there lost = loses isa text old mid fault reads there lost

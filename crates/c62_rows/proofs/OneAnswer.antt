@@ -13,48 +13,53 @@ use Rattle.c62_rows.specs.Text.{LeadsTo, RefusesAmong, IsReading, FliesOf, IsTex
 use Rattle.c62_rows.specs.Text.{lost_among, first_row, Refuses, RefusesFrom}
 use Rattle.c62_rows.specs.Laws.{HasOneAnswer, HasOneText, HasOneStart, HasOneRefusal}
 use Rattle.c62_rows.proofs.OneLine.{same_insn, one_line, line_not_refused, one_line_refusal}
+use Rattle.c62_op.specs.declared.set.InstructionSet.{InstructionSet}
 
 -- ---- all lines
 
-one_reading : (number : ℕ) (old : Reading) (lines : List (List ℕ)) (new other : Reading) → LeadsTo number old lines new
-    → LeadsTo number old lines other
+one_reading : (isa : InstructionSet) (number : ℕ) (old : Reading) (lines : List (List ℕ)) (new other : Reading)
+    → LeadsTo isa number old lines new
+    → LeadsTo isa number old lines other
     → new ≡ other
-one_reading number old [] new other a b = a ∙ sym b
-one_reading number old (bytes ∷ lines) new other (next, adds, a) (then, adds_too, b) =
-    let same : then ≡ next = one_line number bytes old then next adds_too adds in
-    one_reading (number + 1) next lines new other a (subst (λ (r : Reading). LeadsTo (number + 1) r lines other) same b)
+one_reading isa number old [] new other a b = a ∙ sym b
+one_reading isa number old (bytes ∷ lines) new other (next, adds, a) (then, adds_too, b) =
+    let same : then ≡ next = one_line isa number bytes old then next adds_too adds in
+    one_reading isa (number + 1) next lines new other a
+    (subst (λ (r : Reading). LeadsTo isa (number + 1) r lines other) same b)
 
-read_not_refused : (number : ℕ) (old : Reading) (lines : List (List ℕ)) (new : Reading) (line : ℕ) (cause : RowsCause)
-    → LeadsTo number old lines new
-    → RefusesAmong number old lines line cause → ⊥
-read_not_refused number old [] new line cause leads refused = refused
-read_not_refused number old (bytes ∷ lines) new line cause (next, adds, leads) (inl refused) =
-    line_not_refused number bytes old next cause adds refused.1
-read_not_refused number old (bytes ∷ lines) new line cause (next, adds, leads) (inr (then, adds_too, refused)) =
-    let same : then ≡ next = one_line number bytes old then next adds_too adds in
-    read_not_refused (number + 1) next lines new line cause leads
-    (subst (λ (r : Reading). RefusesAmong (number + 1) r lines line cause) same refused)
+read_not_refused : (isa : InstructionSet) (number : ℕ) (old : Reading) (lines : List (List ℕ)) (new : Reading)
+    (line : ℕ) (cause : RowsCause)
+    → LeadsTo isa number old lines new
+    → RefusesAmong isa number old lines line cause → ⊥
+read_not_refused isa number old [] new line cause leads refused = refused
+read_not_refused isa number old (bytes ∷ lines) new line cause (next, adds, leads) (inl refused) =
+    line_not_refused isa number bytes old next cause adds refused.1
+read_not_refused isa number old (bytes ∷ lines) new line cause (next, adds, leads) (inr (then, adds_too, refused)) =
+    let same : then ≡ next = one_line isa number bytes old then next adds_too adds in
+    read_not_refused isa (number + 1) next lines new line cause leads
+    (subst (λ (r : Reading). RefusesAmong isa (number + 1) r lines line cause) same refused)
 
 abbrev AreSame : ℕ → RowsCause → ℕ → RowsCause → Type 0
 AreSame line cause other then = (line ≡ other) × (cause ≡ then)
 
-one_among : (number : ℕ) (old : Reading) (lines : List (List ℕ)) (line other : ℕ) (cause then : RowsCause)
-    → RefusesAmong number old lines line cause
-    → RefusesAmong number old lines other then → AreSame line cause other then
-one_among number old [] line other cause then a b = absurd a
-one_among number old (bytes ∷ lines) line other cause then (inl a) (inl b) = (
+one_among : (isa : InstructionSet) (number : ℕ) (old : Reading) (lines : List (List ℕ)) (line other : ℕ)
+    (cause then : RowsCause)
+    → RefusesAmong isa number old lines line cause
+    → RefusesAmong isa number old lines other then → AreSame line cause other then
+one_among isa number old [] line other cause then a b = absurd a
+one_among isa number old (bytes ∷ lines) line other cause then (inl a) (inl b) = (
   a.0
       ∙ sym b.0,
-  one_line_refusal number bytes old cause then a.1 b.1,
+  one_line_refusal isa number bytes old cause then a.1 b.1,
 )
-one_among number old (bytes ∷ lines) line other cause then (inl a) (inr (next, adds, b)) = absurd
-    (line_not_refused number bytes old next cause adds a.1)
-one_among number old (bytes ∷ lines) line other cause then (inr (next, adds, a)) (inl b) = absurd
-    (line_not_refused number bytes old next then adds b.1)
-one_among number old (bytes ∷ lines) line other cause then (inr (next, adds, a)) (inr (after, adds_too, b)) =
-    let same : after ≡ next = one_line number bytes old after next adds_too adds in
-    one_among (number + 1) next lines line other cause then a
-    (subst (λ (r : Reading). RefusesAmong (number + 1) r lines other then) same b)
+one_among isa number old (bytes ∷ lines) line other cause then (inl a) (inr (next, adds, b)) = absurd
+    (line_not_refused isa number bytes old next cause adds a.1)
+one_among isa number old (bytes ∷ lines) line other cause then (inr (next, adds, a)) (inl b) = absurd
+    (line_not_refused isa number bytes old next then adds b.1)
+one_among isa number old (bytes ∷ lines) line other cause then (inr (next, adds, a)) (inr (after, adds_too, b)) =
+    let same : after ≡ next = one_line isa number bytes old after next adds_too adds in
+    one_among isa (number + 1) next lines line other cause then a
+    (subst (λ (r : Reading). RefusesAmong isa (number + 1) r lines other then) same b)
 
 -- ---- rows with words
 
@@ -97,30 +102,32 @@ one_flight reading flying other a b =
 
 -- ---- texts
 
-same_reading : (text : List ℕ) (one other : Reading) → IsReading text one → IsReading text other → other ≡ one
-same_reading text one other a b = one_reading 1 no_reading (lines_of text) other one b.leads a.leads
+same_reading : (isa : InstructionSet) (text : List ℕ) (one other : Reading) → IsReading isa text one
+    → IsReading isa text other → other ≡ one
+same_reading isa text one other a b = one_reading isa 1 no_reading (lines_of text) other one b.leads a.leads
 
-one_text : (text : List ℕ) → HasOneText text
-one_text text flying other labels names a b =
-    let same : b.reading ≡ a.reading = same_reading text a.reading b.reading a.reads b.reads in (
+one_text : (isa : InstructionSet) (text : List ℕ) → HasOneText isa text
+one_text isa text flying other labels names a b =
+    let same : b.reading ≡ a.reading = same_reading isa text a.reading b.reading a.reads b.reads in (
       one_flight a.reading flying other a.flies (subst (λ (r : Reading). FliesOf r other) same b.flies),
       a.named ∙ ap (λ (r : Reading). r.labels) (sym same) ∙ sym b.named,
     )
 
-one_start : (text : List ℕ) (from : Option Name) → HasOneStart text from
-one_start text from flying other first next a b =
-    let same = one_text text flying other a.labels b.labels a.is_text b.is_text in
+one_start : (isa : InstructionSet) (text : List ℕ) (from : Option Name) → HasOneStart isa text from
+one_start isa text from flying other first next a b =
+    let same = one_text isa text flying other a.labels b.labels a.is_text b.is_text in
     let row : first_row from a.labels ≡ first_row from b.labels = ap (first_row from) same.1 in
     (same.0, grind (arith, a.begins, b.begins, row))
 
-not_refused : (text : List ℕ) (flying : Text) (labels : List (Name × ℕ)) (line : ℕ) (cause : RowsCause)
-    → IsText text flying labels
-    → Refuses text (At line cause) → ⊥
-not_refused text flying labels line cause is (inl long) = absurd (omega (arith, is.reads.short, long.long))
-not_refused text flying labels line cause is (inr (inl first)) =
-    read_not_refused 1 no_reading (lines_of text) is.reading line cause is.reads.leads first.among
-not_refused text flying labels line cause is (inr (inr lost)) =
-    let same : lost.reading ≡ is.reading = same_reading text is.reading lost.reading is.reads lost.reads in
+not_refused : (isa : InstructionSet) (text : List ℕ) (flying : Text) (labels : List (Name × ℕ)) (line : ℕ)
+    (cause : RowsCause)
+    → IsText isa text flying labels
+    → Refuses isa text (At line cause) → ⊥
+not_refused isa text flying labels line cause is (inl long) = absurd (omega (arith, is.reads.short, long.long))
+not_refused isa text flying labels line cause is (inr (inl first)) =
+    read_not_refused isa 1 no_reading (lines_of text) is.reading line cause is.reads.leads first.among
+not_refused isa text flying labels line cause is (inr (inr lost)) =
+    let same : lost.reading ≡ is.reading = same_reading isa text is.reading lost.reading is.reads lost.reads in
     let found : lost_among lost.reading.targets lost.reading.labels ≡ None = ap
     (λ (r : Reading). lost_among r.targets r.labels) same ∙ is.found in
     absurd (grind (arith, found, lost.lost.lost))
@@ -132,51 +139,56 @@ one_lost targets labels line other cause then a b =
     let line_is : line ≡ other = grind (arith, a.lost, b.lost) in
     (line_is, a.told ∙ sym b.told)
 
-one_fault : (text : List ℕ) (line other : ℕ) (cause then : RowsCause) → Refuses text (At line cause)
-    → Refuses text (At other then)
+one_fault : (isa : InstructionSet) (text : List ℕ) (line other : ℕ) (cause then : RowsCause)
+    → Refuses isa text (At line cause)
+    → Refuses isa text (At other then)
     → AreSame line cause other then
-one_fault text line other cause then (inl a) (inl b) = (a.none ∙ sym b.none, a.told ∙ sym b.told)
-one_fault text line other cause then (inl a) (inr (inl b)) = absurd (omega (arith, a.long, b.short))
-one_fault text line other cause then (inl a) (inr (inr b)) = absurd (omega (arith, a.long, b.reads.short))
-one_fault text line other cause then (inr (inl a)) (inl b) = absurd (omega (arith, b.long, a.short))
-one_fault text line other cause then (inr (inr a)) (inl b) = absurd (omega (arith, b.long, a.reads.short))
-one_fault text line other cause then (inr (inl a)) (inr (inl b)) = one_among 1 no_reading (lines_of text) line other
+one_fault isa text line other cause then (inl a) (inl b) = (a.none ∙ sym b.none, a.told ∙ sym b.told)
+one_fault isa text line other cause then (inl a) (inr (inl b)) = absurd (omega (arith, a.long, b.short))
+one_fault isa text line other cause then (inl a) (inr (inr b)) = absurd (omega (arith, a.long, b.reads.short))
+one_fault isa text line other cause then (inr (inl a)) (inl b) = absurd (omega (arith, b.long, a.short))
+one_fault isa text line other cause then (inr (inr a)) (inl b) = absurd (omega (arith, b.long, a.reads.short))
+one_fault isa text line other cause then (inr (inl a)) (inr (inl b)) =
+    one_among isa 1 no_reading (lines_of text) line other
     cause then a.among b.among
-one_fault text line other cause then (inr (inl a)) (inr (inr b)) =
-    absurd (read_not_refused 1 no_reading (lines_of text) b.reading line cause b.reads.leads a.among)
-one_fault text line other cause then (inr (inr a)) (inr (inl b)) =
-    absurd (read_not_refused 1 no_reading (lines_of text) a.reading other then a.reads.leads b.among)
-one_fault text line other cause then (inr (inr a)) (inr (inr b)) =
-    let same : b.reading ≡ a.reading = same_reading text a.reading b.reading a.reads b.reads in
+one_fault isa text line other cause then (inr (inl a)) (inr (inr b)) =
+    absurd (read_not_refused isa 1 no_reading (lines_of text) b.reading line cause b.reads.leads a.among)
+one_fault isa text line other cause then (inr (inr a)) (inr (inl b)) =
+    absurd (read_not_refused isa 1 no_reading (lines_of text) a.reading other then a.reads.leads b.among)
+one_fault isa text line other cause then (inr (inr a)) (inr (inr b)) =
+    let same : b.reading ≡ a.reading = same_reading isa text a.reading b.reading a.reads b.reads in
     one_lost a.reading.targets a.reading.labels line other cause then a.lost
     (subst (λ (r : Reading). IsLost r.targets r.labels other then) same b.lost)
 
-starts_not_refused : (text : List ℕ) (from : Option Name) (flying : Text) (first : ℕ) (fault : RowsFault)
-    → IsTextFrom text from flying first
-    → RefusesFrom text from fault → fault ≡ Memory
-starts_not_refused text from flying first Memory is refused = refl
-starts_not_refused text from flying first (At line cause) is refused = absurd
-    (not_refused text flying is.labels line cause is.is_text refused)
-starts_not_refused text from flying first From is refused =
-    let same = one_text text flying refused.flying is.labels refused.labels is.is_text refused.is_text in
+starts_not_refused : (isa : InstructionSet) (text : List ℕ) (from : Option Name) (flying : Text) (first : ℕ)
+    (fault : RowsFault)
+    → IsTextFrom isa text from flying first
+    → RefusesFrom isa text from fault → fault ≡ Memory
+starts_not_refused isa text from flying first Memory is refused = refl
+starts_not_refused isa text from flying first (At line cause) is refused = absurd
+    (not_refused isa text flying is.labels line cause is.is_text refused)
+starts_not_refused isa text from flying first From is refused =
+    let same = one_text isa text flying refused.flying is.labels refused.labels is.is_text refused.is_text in
     let row : first_row from is.labels ≡ first_row from refused.labels = ap (first_row from) same.1 in
     absurd (grind (arith, is.begins, refused.lacks, row))
 
-one_refusal : (text : List ℕ) (from : Option Name) → HasOneRefusal text from
-one_refusal text from Memory other a b = inr (inl refl)
-one_refusal text from (At line cause) Memory a b = inr (inr refl)
-one_refusal text from From Memory a b = inr (inr refl)
-one_refusal text from From From a b = inl refl
-one_refusal text from (At line cause) From a b = absurd (not_refused text b.flying b.labels line cause b.is_text a)
-one_refusal text from From (At line cause) a b = absurd (not_refused text a.flying a.labels line cause a.is_text b)
-one_refusal text from (At line cause) (At other then) a b =
-    let same = one_fault text line other cause then a b in
+one_refusal : (isa : InstructionSet) (text : List ℕ) (from : Option Name) → HasOneRefusal isa text from
+one_refusal isa text from Memory other a b = inr (inl refl)
+one_refusal isa text from (At line cause) Memory a b = inr (inr refl)
+one_refusal isa text from From Memory a b = inr (inr refl)
+one_refusal isa text from From From a b = inl refl
+one_refusal isa text from (At line cause) From a b =
+    absurd (not_refused isa text b.flying b.labels line cause b.is_text a)
+one_refusal isa text from From (At line cause) a b =
+    absurd (not_refused isa text a.flying a.labels line cause a.is_text b)
+one_refusal isa text from (At line cause) (At other then) a b =
+    let same = one_fault isa text line other cause then a b in
     inl (ap (λ (l : ℕ). At l cause) same.0 ∙ ap (At other) same.1)
 
-pub one_answer : (text : List ℕ) (from : Option Name) → HasOneAnswer text from
-one_answer text from = record {
-  rows = one_text text;
-  start = one_start text from;
-  refusal = starts_not_refused text from;
-  one_refusal = one_refusal text from;
+pub one_answer : (isa : InstructionSet) (text : List ℕ) (from : Option Name) → HasOneAnswer isa text from
+one_answer isa text from = record {
+  rows = one_text isa text;
+  start = one_start isa text from;
+  refusal = starts_not_refused isa text from;
+  one_refusal = one_refusal isa text from;
 }

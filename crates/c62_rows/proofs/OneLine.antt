@@ -20,6 +20,7 @@ use Rattle.c62_rows.specs.Word.{Said, row_says}
 use Rattle.c62_rows.specs.Reading.{Reading, insns_above, on_current, with_named, with_target, number_of, numbered}
 use Rattle.c62_rows.specs.Reading.{hindrance, at_line}
 use Rattle.c62_rows.specs.Reading.{IsPlaced, AddsInsn, Breaks, AddsSays, SaysBreach, AddsLine, RefusesLine}
+use Rattle.c62_op.specs.declared.set.InstructionSet.{InstructionSet}
 
 -- ---- an instruction
 
@@ -120,17 +121,20 @@ one_says_breach number word (Jumps parts target) old cause other a b =
 
 -- ---- lines
 
-same_said : (bytes : List ℕ) (said other : Said) → row_says bytes ≡ Ok said → row_says bytes ≡ Ok other → said ≡ other
-same_said bytes said other a b = grind (arith, a, b)
+same_said : (isa : InstructionSet) (bytes : List ℕ) (said other : Said) → row_says isa bytes ≡ Ok said
+    → row_says isa bytes ≡ Ok other → said ≡ other
+same_said isa bytes said other a b = grind (arith, a, b)
 
-not_both : (bytes : List ℕ) (said : Said) (fault : LineFault) → row_says bytes ≡ Ok said → row_says bytes ≡ Err fault
+not_both : (isa : InstructionSet) (bytes : List ℕ) (said : Said) (fault : LineFault) → row_says isa bytes ≡ Ok said
+    → row_says isa bytes ≡ Err fault
     → ⊥
-not_both bytes said fault a b = absurd (grind (arith, a, b))
+not_both isa bytes said fault a b = absurd (grind (arith, a, b))
 
-pub one_line : (number : ℕ) (bytes : List ℕ) (old new other : Reading) → AddsLine number bytes old new
-    → AddsLine number bytes old other → new ≡ other
-one_line number bytes old new other a b =
-    let same : b.said ≡ a.said = same_said bytes b.said a.said b.says a.says in
+pub one_line : (isa : InstructionSet) (number : ℕ) (bytes : List ℕ) (old new other : Reading)
+    → AddsLine isa number bytes old new
+    → AddsLine isa number bytes old other → new ≡ other
+one_line isa number bytes old new other a b =
+    let same : b.said ≡ a.said = same_said isa bytes b.said a.said b.says a.says in
     let adds : AddsSays number a.said.word a.said.line.says (at_line a.said.line old) other =
     subst (λ (s : Said). AddsSays number s.word s.line.says (at_line s.line old) other) same b.adds in
     one_says number a.said.word a.said.line.says (at_line a.said.line old) new other a.adds adds
@@ -146,13 +150,13 @@ said_not_hindered number said old new cause free adds (inl hindered) = absurd (g
 said_not_hindered number said old new cause free adds (inr breach) =
     says_not_broken number said.word said.line.says (at_line said.line old) new cause adds breach.1
 
-pub line_not_refused : (number : ℕ) (bytes : List ℕ) (old new : Reading) (cause : RowsCause)
-    → AddsLine number bytes old new
-    → RefusesLine number bytes old cause → ⊥
-line_not_refused number bytes old new cause adds (inl faulty) = not_both bytes adds.said faulty.fault adds.says
+pub line_not_refused : (isa : InstructionSet) (number : ℕ) (bytes : List ℕ) (old new : Reading) (cause : RowsCause)
+    → AddsLine isa number bytes old new
+    → RefusesLine isa number bytes old cause → ⊥
+line_not_refused isa number bytes old new cause adds (inl faulty) = not_both isa bytes adds.said faulty.fault adds.says
     faulty.says
-line_not_refused number bytes old new cause adds (inr hindered) =
-    let same : hindered.said ≡ adds.said = same_said bytes hindered.said adds.said hindered.says adds.says in
+line_not_refused isa number bytes old new cause adds (inr hindered) =
+    let same : hindered.said ≡ adds.said = same_said isa bytes hindered.said adds.said hindered.says adds.says in
     said_not_hindered number adds.said old new cause adds.free adds.adds
     (subst (λ (s : Said). Hinders number s old cause) same hindered.hindered)
 
@@ -165,15 +169,17 @@ one_hindrance number said old cause other (inr a) (inl b) = absurd (grind (arith
 one_hindrance number said old cause other (inr a) (inr b) =
     one_says_breach number said.word said.line.says (at_line said.line old) cause other a.1 b.1
 
-pub one_line_refusal : (number : ℕ) (bytes : List ℕ) (old : Reading) (cause other : RowsCause)
-    → RefusesLine number bytes old cause
-    → RefusesLine number bytes old other → cause ≡ other
-one_line_refusal number bytes old cause other (inl a) (inl b) =
+pub one_line_refusal : (isa : InstructionSet) (number : ℕ) (bytes : List ℕ) (old : Reading) (cause other : RowsCause)
+    → RefusesLine isa number bytes old cause
+    → RefusesLine isa number bytes old other → cause ≡ other
+one_line_refusal isa number bytes old cause other (inl a) (inl b) =
     let same : a.fault ≡ b.fault = grind (arith, a.says, b.says) in
     a.told ∙ ap OfLine same ∙ sym b.told
-one_line_refusal number bytes old cause other (inl a) (inr b) = absurd (not_both bytes b.said a.fault b.says a.says)
-one_line_refusal number bytes old cause other (inr a) (inl b) = absurd (not_both bytes a.said b.fault a.says b.says)
-one_line_refusal number bytes old cause other (inr a) (inr b) =
-    let same : b.said ≡ a.said = same_said bytes b.said a.said b.says a.says in
+one_line_refusal isa number bytes old cause other (inl a) (inr b) =
+    absurd (not_both isa bytes b.said a.fault b.says a.says)
+one_line_refusal isa number bytes old cause other (inr a) (inl b) =
+    absurd (not_both isa bytes a.said b.fault a.says b.says)
+one_line_refusal isa number bytes old cause other (inr a) (inr b) =
+    let same : b.said ≡ a.said = same_said isa bytes b.said a.said b.says a.says in
     one_hindrance number a.said old cause other a.hindered
     (subst (λ (s : Said). Hinders number s old other) same b.hindered)

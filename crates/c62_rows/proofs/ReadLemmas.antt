@@ -10,20 +10,23 @@ use Rattle.c62_rows.specs.Read.{IsReady, AddsShortLine}
 use Rattle.c62_rows.proofs.SoundLemmas.{none_sound, line_sound}
 use Rattle.c62_rows.proofs.SmallLemmas.{none_small, line_small, ready_if}
 use Rattle.c62_adopt_cut.specs.declared.text.TheConstants.{MOST_BYTES}
+use Rattle.c62_op.specs.declared.set.InstructionSet.{InstructionSet}
 
 -- the lines above were read, and what is left leads to the same as the whole
-pub record IsReadSoFar (reading : Reading) (number : ℕ) (rest text : List ℕ) : Type 0 where
+pub record IsReadSoFar (isa : InstructionSet) (reading : Reading) (number : ℕ) (rest text : List ℕ) : Type 0 where
   pub lines : ℕ
   pub numbered : number ≡ lines + 1
   pub counted : lines + length rest ≤ length text
   pub sound : IsSound reading
   pub small : IsSmall lines reading
-  pub leads : (last : Reading) → LeadsTo number reading (lines_of rest) last → LeadsTo 1 no_reading (lines_of text) last
-  pub refuses : (line : ℕ) (cause : RowsCause) → RefusesAmong number reading (lines_of rest) line cause
-      → RefusesAmong 1 no_reading (lines_of text) line cause
+  pub leads : (last : Reading) → LeadsTo isa number reading (lines_of rest) last
+      → LeadsTo isa 1 no_reading (lines_of text) last
+  pub refuses : (line : ℕ) (cause : RowsCause) → RefusesAmong isa number reading (lines_of rest) line cause
+      → RefusesAmong isa 1 no_reading (lines_of text) line cause
 
-pub none_read : (reading : Reading) (text : List ℕ) → reading ≡ no_reading → IsReadSoFar reading 1 text text
-none_read reading text is = subst (λ (r : Reading). IsReadSoFar r 1 text text) (sym is) (record {
+pub none_read : (isa : InstructionSet) (reading : Reading) (text : List ℕ) → reading ≡ no_reading
+    → IsReadSoFar isa reading 1 text text
+none_read isa reading text is = subst (λ (r : Reading). IsReadSoFar isa r 1 text text) (sym is) (record {
   lines = 0;
   numbered = omega arith;
   counted = omega arith;
@@ -33,62 +36,67 @@ none_read reading text is = subst (λ (r : Reading). IsReadSoFar r 1 text text) 
   refuses = λ line cause r. r;
 })
 
-pub one_more : (old new : Reading) (number : ℕ) (bytes rest after text : List ℕ) → IsReadSoFar old number rest text
-    → lines_of rest ≡ bytes ∷ lines_of after → length after < length rest → AddsShortLine number bytes old new
-    → IsReadSoFar new (number + 1) after text
-one_more old new number bytes rest after text far first shorter adds =
+pub one_more : (isa : InstructionSet) (old new : Reading) (number : ℕ) (bytes rest after text : List ℕ)
+    → IsReadSoFar isa old number rest text
+    → lines_of rest ≡ bytes ∷ lines_of after → length after < length rest → AddsShortLine isa number bytes old new
+    → IsReadSoFar isa new (number + 1) after text
+one_more isa old new number bytes rest after text far first shorter adds =
     record {
       lines = far.lines + 1;
       numbered = omega (arith, far.numbered);
       counted = omega (arith, far.counted, shorter);
-      sound = line_sound number bytes old new far.sound adds.adds;
-      small = line_small far.lines number bytes old new far.small adds;
+      sound = line_sound isa number bytes old new far.sound adds.adds;
+      small = line_small isa far.lines number bytes old new far.small adds;
       leads = λ last l. far.leads last
-          (subst (λ (lines : List (List ℕ)). LeadsTo number old lines last) (sym first) (new, adds.adds, l));
+          (subst (λ (lines : List (List ℕ)). LeadsTo isa number old lines last) (sym first) (new, adds.adds, l));
       refuses = λ line cause r. far.refuses line cause
-          (subst (λ (lines : List (List ℕ)). RefusesAmong number old lines line cause) (sym first)
+          (subst (λ (lines : List (List ℕ)). RefusesAmong isa number old lines line cause) (sym first)
           (inr (new, adds.adds, r)));
     }
 
-pub refused_at : (reading : Reading) (number : ℕ) (bytes rest after text : List ℕ) (cause : RowsCause)
+pub refused_at : (isa : InstructionSet) (reading : Reading) (number : ℕ) (bytes rest after text : List ℕ)
+    (cause : RowsCause)
     → length text ≤ MOST_BYTES
-    → IsReadSoFar reading number rest text → lines_of rest ≡ bytes ∷ lines_of after
-    → RefusesLine number bytes reading cause
-    → Refuses text (At number cause)
-refused_at reading number bytes rest after text cause short far first refuses =
+    → IsReadSoFar isa reading number rest text → lines_of rest ≡ bytes ∷ lines_of after
+    → RefusesLine isa number bytes reading cause
+    → Refuses isa text (At number cause)
+refused_at isa reading number bytes rest after text cause short far first refuses =
     inr (inl (record {
       short = short;
       among = far.refuses number cause
-          (subst (λ (lines : List (List ℕ)). RefusesAmong number reading lines number cause) (sym first)
+          (subst (λ (lines : List (List ℕ)). RefusesAmong isa number reading lines number cause) (sym first)
           (inl (refl, refuses)));
     }))
 
-pub all_read : (reading : Reading) (number : ℕ) (rest text : List ℕ) → length text ≤ MOST_BYTES
-    → IsReadSoFar reading number rest text
-    → lines_of rest ≡ [] → IsReading text reading
-all_read reading number rest text short far none =
+pub all_read : (isa : InstructionSet) (reading : Reading) (number : ℕ) (rest text : List ℕ) → length text ≤ MOST_BYTES
+    → IsReadSoFar isa reading number rest text
+    → lines_of rest ≡ [] → IsReading isa text reading
+all_read isa reading number rest text short far none =
     record {
       short = short;
       leads = far.leads reading
-          (subst (λ (lines : List (List ℕ)). LeadsTo number reading lines reading) (sym none) refl);
+          (subst (λ (lines : List (List ℕ)). LeadsTo isa number reading lines reading) (sym none) refl);
     }
 
-pub ready_so_far : (reading : Reading) (number : ℕ) (rest text : List ℕ) → length text ≤ MOST_BYTES
-    → IsReadSoFar reading number rest text → IsReady reading
-ready_so_far reading number rest text short far =
+pub ready_so_far : (isa : InstructionSet) (reading : Reading) (number : ℕ) (rest text : List ℕ)
+    → length text ≤ MOST_BYTES
+    → IsReadSoFar isa reading number rest text → IsReady reading
+ready_so_far isa reading number rest text short far =
     ready_if far.lines reading far.sound (record { rows = omega (arith, far.small.rows); idle = far.small.idle })
     (omega (arith, far.counted, short))
 
-pub few_so_far : (reading : Reading) (number : ℕ) (rest text : List ℕ) → length text ≤ MOST_BYTES
-    → IsReadSoFar reading number rest text
+pub few_so_far : (isa : InstructionSet) (reading : Reading) (number : ℕ) (rest text : List ℕ) → length text ≤ MOST_BYTES
+    → IsReadSoFar isa reading number rest text
     → length (all_rows reading) ≤ MOST_BYTES
-few_so_far reading number rest text short far = omega (arith, far.counted, far.small.rows, short)
+few_so_far isa reading number rest text short far = omega (arith, far.counted, far.small.rows, short)
 
-pub number_so_far : (reading : Reading) (number : ℕ) (rest text : List ℕ) → length text ≤ MOST_BYTES
-    → IsReadSoFar reading number rest text
+pub number_so_far : (isa : InstructionSet) (reading : Reading) (number : ℕ) (rest text : List ℕ)
+    → length text ≤ MOST_BYTES
+    → IsReadSoFar isa reading number rest text
     → number ≤ (MOST_BYTES + 1)
-number_so_far reading number rest text short far = omega (arith, far.counted, far.numbered, short)
+number_so_far isa reading number rest text short far = omega (arith, far.counted, far.numbered, short)
 
-pub sound_so_far : (reading : Reading) (number : ℕ) (rest text : List ℕ) → IsReadSoFar reading number rest text
+pub sound_so_far : (isa : InstructionSet) (reading : Reading) (number : ℕ) (rest text : List ℕ)
+    → IsReadSoFar isa reading number rest text
     → IsSound reading
-sound_so_far reading number rest text far = far.sound
+sound_so_far isa reading number rest text far = far.sound

@@ -14,6 +14,7 @@ use Rattle.c62_rows.specs.Reading.{with_named, at_line, AddsInsn, AddsSays, Adds
 use Rattle.c62_rows.specs.Text.{LeadsTo, IsText}
 use Rattle.c62_rows.specs.Laws.{RiseTo, LabelsRise}
 use Rattle.c62_rows.proofs.Worded.{same_count}
+use Rattle.c62_op.specs.declared.set.InstructionSet.{InstructionSet}
 
 -- ---- labels
 
@@ -107,25 +108,27 @@ says_grows number word (Jumps parts target) old new adds =
     both_grow old (with_target target number old) new (target_grows target number old)
     (insn_grows _ (with_target target number old) new adds)
 
-line_rising : (number : ℕ) (bytes : List ℕ) (old new : Reading) → AddsLine number bytes old new → AreRising old
+line_rising : (isa : InstructionSet) (number : ℕ) (bytes : List ℕ) (old new : Reading)
+    → AddsLine isa number bytes old new → AreRising old
     → AreRising new
-line_rising number bytes old new adds rise =
+line_rising isa number bytes old new adds rise =
     grown (at_line adds.said.line old) new
     (says_grows number adds.said.word adds.said.line.says (at_line adds.said.line old) new adds.adds)
     (at_line_rising adds.said.line old rise)
 
 -- ---- texts
 
-lines_rising : (number : ℕ) (old : Reading) (lines : List (List ℕ)) (new : Reading) → LeadsTo number old lines new
+lines_rising : (isa : InstructionSet) (number : ℕ) (old : Reading) (lines : List (List ℕ)) (new : Reading)
+    → LeadsTo isa number old lines new
     → AreRising old → AreRising new
-lines_rising number old [] new same rise = subst AreRising (sym same) rise
-lines_rising number old (bytes ∷ lines) new (next, adds, leads) rise =
-    lines_rising (number + 1) next lines new leads (line_rising number bytes old next adds rise)
+lines_rising isa number old [] new same rise = subst AreRising (sym same) rise
+lines_rising isa number old (bytes ∷ lines) new (next, adds, leads) rise =
+    lines_rising isa (number + 1) next lines new leads (line_rising isa number bytes old next adds rise)
 
-pub labels_rise : (text : List ℕ) → LabelsRise text
-labels_rise text flying labels is =
+pub labels_rise : (isa : InstructionSet) (text : List ℕ) → LabelsRise isa text
+labels_rise isa text flying labels is =
     let rise : RiseTo (length (all_rows is.reading)) 0 is.reading.labels =
-    lines_rising 1 no_reading (lines_of text) is.reading is.reads.leads (omega arith) in
+    lines_rising isa 1 no_reading (lines_of text) is.reading is.reads.leads (omega arith) in
     let count = same_count is.reading.words is.reading.labels (all_rows is.reading) flying.rows is.flies.rows in
     subst (RiseTo (length flying.rows) 0) (sym is.named)
     (more_rows (length (all_rows is.reading)) (length flying.rows) 0 is.reading.labels (omega (arith, count)) rise)

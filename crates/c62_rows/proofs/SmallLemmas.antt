@@ -17,6 +17,7 @@ use Rattle.c62_rows.specs.Reading.{with_named, at_line, AddsInsn, AddsSays}
 use Rattle.c62_rows.specs.Sound.{IsSound, IsSmall}
 use Rattle.c62_rows.specs.Read.{IsReady, IsShort, AddsShortLine}
 use Rattle.c62_adopt_cut.specs.declared.text.TheConstants.{MOST_BYTES}
+use Rattle.c62_op.specs.declared.set.InstructionSet.{InstructionSet}
 
 -- ---- so many lines
 
@@ -104,9 +105,9 @@ says_small lines number word (Does parts) old new is short adds = insn_small lin
 says_small lines number word (Jumps parts target) old new is short adds =
     insn_small lines _ (with_target target number old) new (target_small lines target number old is) adds
 
-pub line_small : (lines number : ℕ) (bytes : List ℕ) (old new : Reading) → IsSmall lines old
-    → AddsShortLine number bytes old new → IsSmall (lines + 1) new
-line_small lines number bytes old new is adds =
+pub line_small : (isa : InstructionSet) (lines number : ℕ) (bytes : List ℕ) (old new : Reading) → IsSmall lines old
+    → AddsShortLine isa number bytes old new → IsSmall (lines + 1) new
+line_small isa lines number bytes old new is adds =
     says_small lines number adds.adds.said.word adds.adds.said.line.says (at_line adds.adds.said.line old) new
     (at_small lines adds.adds.said.line old is)
     adds.short adds.adds.adds

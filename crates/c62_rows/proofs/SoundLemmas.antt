@@ -27,6 +27,7 @@ use Rattle.c62_rows.specs.Reading.{is_word_more, is_one_more}
 use Rattle.c62_rows.specs.Sound.{IsSound}
 use Rattle.c62_rows.proofs.Packets.{eight_at_most, none_on_unit, rises_strictly, rises_with, strictly_rises}
 use Rattle.c62_rows.specs.declared.reader.TheConstants.{MOST_TARGETS}
+use Rattle.c62_op.specs.declared.set.InstructionSet.{InstructionSet}
 
 -- ---- rows
 
@@ -206,9 +207,10 @@ pub room_at : (said : Said) (reading : Reading) → is_one_more said.word said.l
 room_at said reading room = one_more-same said.word said.line.says (at_line said.line reading) reading
     (targets_at said.line reading) ∙ room
 
-pub line_sound : (number : ℕ) (bytes : List ℕ) (old new : Reading) → IsSound old → AddsLine number bytes old new
+pub line_sound : (isa : InstructionSet) (number : ℕ) (bytes : List ℕ) (old new : Reading) → IsSound old
+    → AddsLine isa number bytes old new
     → IsSound new
-line_sound number bytes old new is adds =
+line_sound isa number bytes old new is adds =
     says_sound number adds.said.word adds.said.line.says (at_line adds.said.line old) new
     (at_line_sound adds.said.line old is)
     (room_at adds.said old (free_room adds.said old adds.free)) adds.adds

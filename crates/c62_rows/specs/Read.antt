@@ -14,6 +14,7 @@ use Rattle.c62_rows.specs.Rows.{row_read}
 use Rattle.c62_rows.specs.Word.{Said}
 use Rattle.c62_rows.specs.Reading.{Reading, insns_above, hindrance, at_line, AddsInsn, Breaks, AddsSays, SaysBreach, AddsLine, RefusesLine}
 use Rattle.c62_rows.specs.declared.reader.TheConstants.{MOST_TARGETS}
+use Rattle.c62_op.specs.declared.set.InstructionSet.{InstructionSet}
 
 abbrev pub reading_of : Reader → Reading
 reading_of reader = record {
@@ -66,13 +67,13 @@ TellsOfSaid number said old new told =
     MatchOption told (AddsSaid number said (reading_of old) (reading_of new)) (RefusesSaid number said (reading_of old))
 
 -- and of any line
-pub record AddsShortLine (number : ℕ) (bytes : List ℕ) (old new : Reading) : Type 0 where
-  pub adds : AddsLine number bytes old new
+pub record AddsShortLine (isa : InstructionSet) (number : ℕ) (bytes : List ℕ) (old new : Reading) : Type 0 where
+  pub adds : AddsLine isa number bytes old new
   pub short : IsShort adds.said.line.says
 
-abbrev pub TellsOfLine : ℕ → List ℕ → Reader → Reader → Option RowsCause → Type 0
-TellsOfLine number bytes old new told =
-    MatchOption told (AddsShortLine number bytes (reading_of old) (reading_of new)) (RefusesLine number bytes (reading_of old))
+abbrev pub TellsOfLine : InstructionSet → ℕ → List ℕ → Reader → Reader → Option RowsCause → Type 0
+TellsOfLine isa number bytes old new told =
+    MatchOption told (AddsShortLine isa number bytes (reading_of old) (reading_of new)) (RefusesLine isa number bytes (reading_of old))
 
 -- memory that ran out is no fault of a line
 abbrev pub TellsCause : LineFault → Result RowsCause AllocError → Type 0

@@ -22,6 +22,7 @@ use Rattle.c62_rows.specs.declared.fault.RowsCause.TheVariants.{Line as OfLine, 
 use Rattle.c62_rows.specs.Rows.{with_insn, with_idle, MayJoin, IsBreach}
 use Rattle.c62_rows.specs.Word.{Said, row_says}
 use Rattle.c62_rows.specs.declared.reader.TheConstants.{MOST_TARGETS}
+use Rattle.c62_op.specs.declared.set.InstructionSet.{InstructionSet}
 
 -- The rows that are over, and the one that a line with bars goes on with; each label with the row that begins below it; each label
 -- that branches or words name, in the order in which they do, with the first line of one; and the label of each line that takes the
@@ -174,23 +175,23 @@ abbrev pub at_line : Line → Reading → Reading
 at_line line reading = begun line (with_label line.label reading)
 
 -- the line of this number says something, nothing stands against it, and that is read, too
-pub record AddsLine (number : ℕ) (bytes : List ℕ) (old new : Reading) : Type 0 where
+pub record AddsLine (isa : InstructionSet) (number : ℕ) (bytes : List ℕ) (old new : Reading) : Type 0 where
   pub said : Said
-  pub says : row_says bytes ≡ Ok said
+  pub says : row_says isa bytes ≡ Ok said
   pub free : hindrance said old ≡ None
   pub adds : AddsSays number said.word said.line.says (at_line said.line old) new
 
 -- the line has this fault by itself
-pub record IsFaulty (bytes : List ℕ) (cause : RowsCause) : Type 0 where
+pub record IsFaulty (isa : InstructionSet) (bytes : List ℕ) (cause : RowsCause) : Type 0 where
   pub fault : LineFault
-  pub says : row_says bytes ≡ Err fault
+  pub says : row_says isa bytes ≡ Err fault
   pub told : cause ≡ OfLine fault
 
 -- or it says something, and this stands against it
-pub record IsHindered (number : ℕ) (bytes : List ℕ) (old : Reading) (cause : RowsCause) : Type 0 where
+pub record IsHindered (isa : InstructionSet) (number : ℕ) (bytes : List ℕ) (old : Reading) (cause : RowsCause) : Type 0 where
   pub said : Said
-  pub says : row_says bytes ≡ Ok said
+  pub says : row_says isa bytes ≡ Ok said
   pub hindered : (hindrance said old ≡ Some cause) ⊎ ((hindrance said old ≡ None) × SaysBreach number said.word said.line.says (at_line said.line old) cause)
 
-abbrev pub RefusesLine : ℕ → List ℕ → Reading → RowsCause → Type 0
-RefusesLine number bytes old cause = IsFaulty bytes cause ⊎ IsHindered number bytes old cause
+abbrev pub RefusesLine : InstructionSet → ℕ → List ℕ → Reading → RowsCause → Type 0
+RefusesLine isa number bytes old cause = IsFaulty isa bytes cause ⊎ IsHindered isa number bytes old cause

@@ -7,6 +7,7 @@ use Rattle.c62_rows.specs.declared.text.RowsText.{RowsText}
 use Rattle.c62_rows.specs.declared.text.Begun.{Begun as BegunRead}
 use Rattle.c62_rows.specs.Rows.{text_of, AreRows}
 use Rattle.c62_rows.specs.Text.{lost_among, aims_among, IsLost, IsText, IsTextFrom}
+use Rattle.c62_op.specs.declared.set.InstructionSet.{InstructionSet}
 
 -- the labels of a text, each with its row
 abbrev pub names_of : RowsText → List (Name × ℕ)
@@ -23,12 +24,12 @@ pub record FindsAims (targets labels : List (Name × ℕ)) (aims : List ℕ) : T
   pub aims_are : aims ≡ aims_among targets labels
 
 -- what flies of a text and from which row on, its labels, and what holds of its rows
-pub record BeginsAs (text : List ℕ) (from : Option Name) (begun : BegunRead) : Type 0 where
-  pub is_text : IsTextFrom text from (text_of begun.rows) begun.first
+pub record BeginsAs (isa : InstructionSet) (text : List ℕ) (from : Option Name) (begun : BegunRead) : Type 0 where
+  pub is_text : IsTextFrom isa text from (text_of begun.rows) begun.first
   pub named : begun.labels.entries ≡ is_text.labels
   pub rows : AreRows begun.rows
 
 -- what is read of a text, and what holds of its rows
-pub record ReadsAs (text : List ℕ) (read : RowsText) : Type 0 where
-  pub is_text : IsText text (text_of read.rows) (names_of read)
+pub record ReadsAs (isa : InstructionSet) (text : List ℕ) (read : RowsText) : Type 0 where
+  pub is_text : IsText isa text (text_of read.rows) (names_of read)
   pub rows : AreRows read.rows

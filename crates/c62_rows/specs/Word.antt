@@ -20,6 +20,7 @@ use Rattle.c62_adopt_line.specs.declared.fault.LineFault.{LineFault}
 use Rattle.c62_adopt_line.specs.declared.fault.LineFault.TheVariants.{Read}
 use Rattle.c62_adopt_line.specs.Line.{Line, line_says}
 use Rattle.c62_flight.specs.Text.{address_of}
+use Rattle.c62_op.specs.declared.set.InstructionSet.{InstructionSet}
 
 -- ---- names and rows
 
@@ -94,17 +95,17 @@ abbrev pub said_with : Option Name → Result Line LineFault → Result Said Lin
 said_with word (Ok line) = Ok (record { line = line; word = word })
 said_with word (Err fault) = Err fault
 
-abbrev pub of_label : List ℕ → LineFault → Option Name → Result Said LineFault
-of_label bytes fault None = Err fault
-of_label bytes fault (Some name) = said_with (Some name) (line_says (zeroed bytes))
+abbrev pub of_label : InstructionSet → List ℕ → LineFault → Option Name → Result Said LineFault
+of_label isa bytes fault None = Err fault
+of_label isa bytes fault (Some name) = said_with (Some name) (line_says isa (zeroed bytes))
 
-abbrev pub or_label : List ℕ → Result Line LineFault → Result Said LineFault
-or_label bytes (Ok line) = Ok (record { line = line; word = None })
-or_label bytes (Err fault) = of_label bytes fault (label_in fault bytes)
+abbrev pub or_label : InstructionSet → List ℕ → Result Line LineFault → Result Said LineFault
+or_label isa bytes (Ok line) = Ok (record { line = line; word = None })
+or_label isa bytes (Err fault) = of_label isa bytes fault (label_in fault bytes)
 
 -- what a line of packets says; with a label as a word it says what it does with 0 there
-unfoldable pub row_says : List ℕ → Result Said LineFault
-row_says bytes = or_label bytes (line_says bytes)
+unfoldable pub row_says : InstructionSet → List ℕ → Result Said LineFault
+row_says isa bytes = or_label isa bytes (line_says isa bytes)
 
 -- ---- the halves of a word
 

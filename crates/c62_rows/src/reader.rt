@@ -16,6 +16,7 @@ use crate::word::{Said, read_said};
 use c62_adopt_line::{LineFault, Written};
 use c62_insn::Insn;
 use c62_line::{Cause, Label, What, copied_label};
+use c62_op::InstructionSet;
 use c62_packet::Placed;
 use indexmap::IndexMap;
 use std::alloc::{AllocError, Global};
@@ -346,6 +347,7 @@ impl Reader {
     #[tactic(auto, using(crate::proofs::AddLemmas::line_ok, crate::proofs::AddLemmas::fault_refuses, crate::proofs::AddLemmas::unit_there))]
     pub(crate) fn add_line(
         &mut self,
+        isa: InstructionSet,
         alloc: Global,
         text: &mut Vec<u8>,
         number: u32,
@@ -353,9 +355,9 @@ impl Reader {
     ) -> Result<Option<RowsCause>, AllocError>
         requires few { length (all_rows (reading_of self.old)) < 2 ^ 31 }
         requires ready { IsReady (reading_of self.old) }
-        ensures { IfOk result (TellsOfLine number bytes.now self.old self.new) }
+        ensures { IfOk result (TellsOfLine isa number bytes.now self.old self.new) }
     {
-        match read_said(alloc, text, bytes) {
+        match read_said(isa, alloc, text, bytes) {
             Ok(said) => self.add_said(alloc, number, said),
             Err(fault) => cause_of(fault).map(Some),
         }

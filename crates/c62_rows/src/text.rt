@@ -14,6 +14,7 @@ use crate::word::undotted;
 use c62_adopt_cut::MOST_BYTES;
 use c62_adopt_line::LineFault;
 use c62_line::{Cause, Label};
+use c62_op::InstructionSet;
 use c62_read::first_line;
 use c62_token::number::is_label;
 use indexmap::IndexMap;
@@ -108,10 +109,10 @@ fn collected(alloc: Global, reader: Reader) -> Result<RowsText, RowsFault>
 
 /// What is read of a text of which all lines are.
 #[tactic(auto, using(crate::proofs::Finished::finish_told))]
-fn finished(alloc: Global, reader: Reader) -> Result<RowsText, RowsFault>
+fn finished(isa: InstructionSet, alloc: Global, reader: Reader) -> Result<RowsText, RowsFault>
     requires sound { IsSound (reading_of reader) }
     requires few { length (all_rows (reading_of reader)) ≤ MOST_BYTES }
-    ensures { (text : List ℕ) → IsReading text (reading_of reader) → MatchResult result (ReadsAs text) (Refuses text) }
+    ensures { (text : List ℕ) → IsReading isa text (reading_of reader) → MatchResult result (ReadsAs isa text) (Refuses isa text) }
 {
     let mut reader = reader;
     reader.close()?;
@@ -120,22 +121,22 @@ fn finished(alloc: Global, reader: Reader) -> Result<RowsText, RowsFault>
 
 /// What is read of a text that is not too long.
 #[tactic(auto, using(crate::proofs::ReadLemmas::none_read, crate::proofs::ReadLemmas::ready_so_far, crate::proofs::ReadLemmas::few_so_far, crate::proofs::ReadLemmas::number_so_far, crate::proofs::ReadLemmas::sound_so_far))]
-fn read_lines(alloc: Global, text: &[u8]) -> Result<RowsText, RowsFault>
+fn read_lines(isa: InstructionSet, alloc: Global, text: &[u8]) -> Result<RowsText, RowsFault>
     requires { length text.now ≤ MOST_BYTES }
-    ensures { MatchResult result (ReadsAs text.now) (Refuses text.now) }
+    ensures { MatchResult result (ReadsAs isa text.now) (Refuses isa text.now) }
 {
     let mut reader = Reader::new(alloc);
     let mut plain = Vec::new(alloc);
     let mut rest = text;
     let mut number = 1;
     while let Some((line, after)) = first_line(rest) {
-        if let Some(cause) = reader.add_line(alloc, &mut plain, number, line)? {
+        if let Some(cause) = reader.add_line(isa, alloc, &mut plain, number, line)? {
             return Err(RowsFault::At(number, cause));
         }
         number += 1;
         rest = after;
     }
-    finished(alloc, reader)
+    finished(isa, alloc, reader)
 }
 
 /// The rows of a text of packets, as people and compilers write them (docs/EXEC.md): each packet with its cycles, each label that
@@ -147,14 +148,14 @@ fn read_lines(alloc: Global, text: &[u8]) -> Result<RowsText, RowsFault>
 /// `At` with the first line that has a fault by itself or because of the lines above it, and else with the first that names a
 /// label, by a branch or for its word, that no line has. A text of more than [`MOST_BYTES`] bytes is `TextTooLong` with line 0. `Memory` where memory
 /// ran out, which may come in place of any answer.
-pub fn read_rows(alloc: Global, text: &[u8]) -> Result<RowsText, RowsFault>
-    ensures { MatchResult result (ReadsAs text.now) (Refuses text.now) }
+pub fn read_rows(isa: InstructionSet, alloc: Global, text: &[u8]) -> Result<RowsText, RowsFault>
+    ensures { MatchResult result (ReadsAs isa text.now) (Refuses isa text.now) }
 {
     if text.len() > MOST_BYTES {
         let cause = RowsCause::Line(LineFault::Read(Cause::TextTooLong));
         return Err(RowsFault::At(0, cause));
     }
-    read_lines(alloc, text)
+    read_lines(isa, alloc, text)
 }
 
 /// The rows of a text, the one with which a run begins, and those of its labels.
@@ -185,10 +186,15 @@ impl RowsText {
 ///
 /// Those of [`read_rows`], and else `From` where no line has the label.
 #[tactic(auto, using(crate::proofs::FinishLemmas::begins_as, crate::proofs::FinishLemmas::lacks_start, crate::proofs::FinishLemmas::refuses_first))]
-pub fn read_from(alloc: Global, text: &[u8], from: Option<&[u8]>) -> Result<Begun, RowsFault>
-    ensures { MatchResult result (BeginsAs text.now (option_copied from.entry)) (RefusesFrom text.now (option_copied from.entry)) }
+pub fn read_from(
+    isa: InstructionSet,
+    alloc: Global,
+    text: &[u8],
+    from: Option<&[u8]>,
+) -> Result<Begun, RowsFault>
+    ensures { MatchResult result (BeginsAs isa text.now (option_copied from.entry)) (RefusesFrom isa text.now (option_copied from.entry)) }
 {
-    let read = read_rows(alloc, text)?;
+    let read = read_rows(isa, alloc, text)?;
     match read.first_row(alloc, from)? {
         Some(first) => Ok(Begun {
             rows: read.rows,

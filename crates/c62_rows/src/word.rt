@@ -11,6 +11,7 @@ ghost use Rattle.c62_rows.specs.Read.{said_read};
 
 use c62_adopt_line::{LineFault, Written, read_line};
 use c62_line::{Cause, Label};
+use c62_op::InstructionSet;
 use c62_token::number::{is_label, spells};
 use c62_token::{Tokens, begins_with};
 use std::alloc::{AllocError, Global};
@@ -179,17 +180,22 @@ fn zeroed(alloc: Global, line: &[u8]) -> Result<Vec<u8>, AllocError>
 ///
 /// The first fault of the line that needs no other line. `Memory` may come in place of any answer.
 #[tactic(auto, unfolding(crate::specs::Word::row_says))]
-pub fn read_said(alloc: Global, text: &mut Vec<u8>, line: &[u8]) -> Result<Said, LineFault>
-    ensures { MatchResult result (λ said. row_says line.now ≡ Ok (said_read said)) (λ fault. Fails fault (row_says line.now)) }
+pub fn read_said(
+    isa: InstructionSet,
+    alloc: Global,
+    text: &mut Vec<u8>,
+    line: &[u8],
+) -> Result<Said, LineFault>
+    ensures { MatchResult result (λ said. row_says isa line.now ≡ Ok (said_read said)) (λ fault. Fails fault (row_says isa line.now)) }
 {
-    let fault = match read_line(text, line) {
+    let fault = match read_line(isa, text, line) {
         Ok(line) => return Ok(Said { line, word: None }),
         Err(fault) => fault,
     };
     match label_in(alloc, fault, line)? {
         None => Err(fault),
         Some(label) => Ok(Said {
-            line: read_line(text, &zeroed(alloc, line)?)?,
+            line: read_line(isa, text, &zeroed(alloc, line)?)?,
             word: Some(label),
         }),
     }

@@ -2,7 +2,7 @@
 use Rattle.std.proofs.Common.{◌≡◌, ℕ, ◌+◌, ◌-◌, ◌*◌, ◌%◌, ◌^◌, ◌<◌, ◌≤◌, ℤ, pos, negsuc, ◌≤ℤ◌, Bool, true, false, List}
 use Rattle.std.proofs.Common.{[], ◌∷◌, ◌++◌, map, Some, refl, sym, ◌∙◌, ap, subst, ◌⊎◌, inl, inr, ⊎_elim, arith}
 use Rattle.std.specs.Prelude.{◌&&◌, ◌||◌, nat_le, slice_index, unsigned_abs, if◌then◌else◌, int_le}
-use Rattle.std.proofs.lemmas.Bool.{cases_lt, and_parts, or_cases, leb-true, false≢true}
+use Rattle.std.proofs.lemmas.Bool.{cases_lt, and_from, and_parts, or_cases, leb-true, le-leb, false≢true}
 use Rattle.std.proofs.lemmas.Int.{ints}
 use Rattle.std.proofs.lemmas.Option.{none-some, same_Some}
 use Rattle.c62_op.specs.declared.register.Reg.{Reg}
@@ -19,7 +19,7 @@ use Rattle.c62_op.specs.declared.operands.Operands.TheVariants.{Three, ConstantF
 use Rattle.c62_op.specs.declared.operands.Operands.TheVariants.{Constant, Access, Block, Register}
 use Rattle.c62_op.specs.Word.{word}
 use Rattle.c62_op.specs.Takes.{same_reg, same_letter, takes, in_range}
-use Rattle.c62_op.specs.Table.{ucst5}
+use Rattle.c62_op.specs.Table.{ucst5, ucst15}
 use Rattle.c62_op.specs.Shape.{is_store, reads_of}
 use Rattle.c62_op.specs.Meaning.{size_of, moved, address_of, base_index, base_after}
 use Rattle.c62_op.proofs.Registers.{same_reg-is, same_reg-refl}
@@ -44,43 +44,58 @@ sizes Ldhu = inr (inl refl)
 sizes Sth = inr (inl refl)
 sizes _ = inr (inr refl)
 
-fits_five : (k : ℤ) (a b : Bool) → ((in_range ucst5 k && a && b) || false) ≡ true → in_range ucst5 k ≡ true
-fits_five k a b h =
-    ⊎_elim {C = in_range ucst5 k ≡ true}
-    (λ e. (and_parts (in_range ucst5 k) a (and_parts (in_range ucst5 k && a) b e).0).0)
+wider : (k : ℤ) → in_range ucst5 k ≡ true → in_range ucst15 k ≡ true
+wider (pos n) h =
+    let both = and_parts (int_le (pos 0) (pos n)) (int_le (pos n) (pos 31)) h in
+    and_from (int_le (pos 0) (pos n)) (int_le (pos n) (pos 32767)) both.0
+    (le-leb n 32767 (omega (arith, leb-true n 31 both.1)))
+wider (negsuc n) h = cc
+
+-- by either form
+fits_either : (k : ℤ) (a b far c d : Bool)
+    → ((in_range ucst5 k && a && b) || ((far && in_range ucst15 k && c && d) || false)) ≡ true
+    → in_range ucst15 k ≡ true
+fits_either k a b far c d h =
+    ⊎_elim {C = in_range ucst15 k ≡ true}
+    (λ e. wider k (and_parts (in_range ucst5 k) a (and_parts (in_range ucst5 k && a) b e).0).0)
+    (λ rest. ⊎_elim {C = in_range ucst15 k ≡ true}
+    (λ e. (and_parts far (in_range ucst15 k)
+    (and_parts (far && in_range ucst15 k) c (and_parts (far && in_range ucst15 k && c) d e).0).0).1)
     (λ e. absurd (false≢true e))
-    (or_cases (in_range ucst5 k && a && b) false h)
+    (or_cases (far && in_range ucst15 k && c && d) false rest))
+    (or_cases (in_range ucst5 k && a && b) ((far && in_range ucst15 k && c && d) || false) h)
 
 offset_fits : (op : Op) (reg base : Reg) (form : AddressForm) (k : ℤ) (unit : FunctionalUnit)
-    → takes op (Access reg base form (ByConstant k)) unit ≡ true → in_range ucst5 k ≡ true
-offset_fits Ldb reg base form k unit h = fits_five k (same_letter D unit.letter) _ h
-offset_fits Ldbu reg base form k unit h = fits_five k (same_letter D unit.letter) _ h
-offset_fits Ldh reg base form k unit h = fits_five k (same_letter D unit.letter) _ h
-offset_fits Ldhu reg base form k unit h = fits_five k (same_letter D unit.letter) _ h
-offset_fits Ldw reg base form k unit h = fits_five k (same_letter D unit.letter) _ h
-offset_fits Stb reg base form k unit h = fits_five k (same_letter D unit.letter) _ h
-offset_fits Sth reg base form k unit h = fits_five k (same_letter D unit.letter) _ h
-offset_fits Stw reg base form k unit h = fits_five k (same_letter D unit.letter) _ h
+    → takes op (Access reg base form (ByConstant k)) unit ≡ true → in_range ucst15 k ≡ true
+offset_fits Ldb reg base form k unit h = fits_either k (same_letter D unit.letter) _ _ (same_letter D unit.letter) _ h
+offset_fits Ldbu reg base form k unit h = fits_either k (same_letter D unit.letter) _ _ (same_letter D unit.letter) _ h
+offset_fits Ldh reg base form k unit h = fits_either k (same_letter D unit.letter) _ _ (same_letter D unit.letter) _ h
+offset_fits Ldhu reg base form k unit h = fits_either k (same_letter D unit.letter) _ _ (same_letter D unit.letter) _ h
+offset_fits Ldw reg base form k unit h = fits_either k (same_letter D unit.letter) _ _ (same_letter D unit.letter) _ h
+offset_fits Stb reg base form k unit h = fits_either k (same_letter D unit.letter) _ _ (same_letter D unit.letter) _ h
+offset_fits Sth reg base form k unit h = fits_either k (same_letter D unit.letter) _ _ (same_letter D unit.letter) _ h
+offset_fits Stw reg base form k unit h = fits_either k (same_letter D unit.letter) _ _ (same_letter D unit.letter) _ h
 offset_fits _ reg base form k unit h = cc
 
-small : (k : ℤ) → in_range ucst5 k ≡ true → (k ≡ pos (unsigned_abs k)) × (unsigned_abs k ≤ 31)
-small (pos n) h = (refl, leb-true n 31 (and_parts (int_le (pos 0) (pos n)) (int_le (pos n) (pos 31)) h).1)
+small : (k : ℤ) → in_range ucst15 k ≡ true → (k ≡ pos (unsigned_abs k)) × (unsigned_abs k ≤ 32767)
+small (pos n) h = (refl, leb-true n 32767 (and_parts (int_le (pos 0) (pos n)) (int_le (pos n) (pos 32767)) h).1)
 small (negsuc n) h = cc
 
 -- the offset in bytes
-distance : (n size : ℕ) → (size ≡ 1) ⊎ ((size ≡ 2) ⊎ (size ≡ 4)) → n ≤ 31 → ((word (pos n) * size) % 2 ^ 32 ≡ n * size)
-    × (n * size ≤ 124)
+distance : (n size : ℕ) → (size ≡ 1) ⊎ ((size ≡ 2) ⊎ (size ≡ 4)) → n ≤ 32767
+    → ((word (pos n) * size) % 2 ^ 32 ≡ n * size)
+    × (n * size ≤ 131068)
 distance n size (inl e) le = subst (λ (s : ℕ). ((word (pos n) * s) % 2 ^ 32 ≡ n * s)
-    × (n * s ≤ 124)) (sym e) (omega (arith, le), omega (arith, le))
+    × (n * s ≤ 131068)) (sym e) (omega (arith, le), omega (arith, le))
 distance n size (inr (inl e)) le = subst (λ (s : ℕ). ((word (pos n) * s) % 2 ^ 32 ≡ n * s)
-    × (n * s ≤ 124)) (sym e) (omega (arith, le), omega (arith, le))
+    × (n * s ≤ 131068)) (sym e) (omega (arith, le), omega (arith, le))
 distance n size (inr (inr e)) le = subst (λ (s : ℕ). ((word (pos n) * s) % 2 ^ 32 ≡ n * s)
-    × (n * s ≤ 124)) (sym e) (omega (arith, le), omega (arith, le))
+    × (n * s ≤ 131068)) (sym e) (omega (arith, le), omega (arith, le))
 
--- an offset of an instruction moves an address by 124 bytes at most
+-- an offset of an instruction moves an address by 131,068 bytes at most
 pub reaches : (insn : Insn) (reg base : Reg) (form : AddressForm) (k : ℤ)
     → operands_of insn ≡ Access reg base form (ByConstant k)
-    → (unsigned_abs k * size_of (op_of insn) ≤ 124) × (size_of (op_of insn) ≤ 4)
+    → (unsigned_abs k * size_of (op_of insn) ≤ 131068) × (size_of (op_of insn) ≤ 4)
 reaches insn reg base form k e =
     let unit = has_unit insn in
     let taken : takes (op_of insn) (Access reg base form (ByConstant k)) unit.0 ≡ true = subst
@@ -94,8 +109,8 @@ reaches insn reg base form k e =
     few (inr (inr e)) = omega (arith, e)
 
 -- an address within memory, of the base and the offset
-lies : (form : AddressForm) (x d : ℕ) → d ≤ 124 → address_of form x (moved form x d) ≤ 65536
-    → address_of form x (moved form x d) ≡ (x + (2 ^ 32 - 124) + begin_of form d) % 2 ^ 32
+lies : (form : AddressForm) (x d : ℕ) → d ≤ 131068 → address_of form x (moved form x d) ≤ 65536
+    → address_of form x (moved form x d) ≡ (x + (2 ^ 32 - 131068) + begin_of form d) % 2 ^ 32
 lies Plus x d le low = omega (arith, le, low)
 lies Minus x d le low = omega (arith, le, low)
 lies PreIncrement x d le low = omega (arith, le, low)
@@ -115,8 +130,8 @@ base_read op reg base form k words = by_store (is_store op)
 -- the access of an instruction with a range covers it
 pub record Covers (x : ℕ) (range : Range) (access : MemoryAccess) : Type 0 where
   pub size : access.size ≡ range.size
-  pub at : access.address ≤ 65536 → access.address ≡ (x + (2 ^ 32 - 124) + range.begin) % 2 ^ 32
-  pub few : range.begin + range.size ≤ 252
+  pub at : access.address ≤ 65536 → access.address ≡ (x + (2 ^ 32 - 131068) + range.begin) % 2 ^ 32
+  pub few : range.begin + range.size ≤ 262140
 
 pub covers : (insn : Insn) (words : Reg → ℕ) (range : Range) (access : MemoryAccess)
     → range_of (op_of insn) (operands_of insn) ≡ Some range
@@ -125,8 +140,8 @@ pub covers : (insn : Insn) (words : Reg → ℕ) (range : Range) (access : Memor
 covers insn words range access is_range is_access = by_operands (op_of insn) (operands_of insn) (has_unit insn).0
     (has_unit insn).1 is_range is_access
   where
-    begins : (form : AddressForm) (d size : ℕ) → d ≤ 124 → (size ≡ 1) ⊎ ((size ≡ 2) ⊎ (size ≡ 4))
-        → begin_of form d + size ≤ 252
+    begins : (form : AddressForm) (d size : ℕ) → d ≤ 131068 → (size ≡ 1) ⊎ ((size ≡ 2) ⊎ (size ≡ 4))
+        → begin_of form d + size ≤ 262140
     begins Plus d size le (inl e) = omega (arith, le, e)
     begins Plus d size le (inr (inl e)) = omega (arith, le, e)
     begins Plus d size le (inr (inr e)) = omega (arith, le, e)
@@ -184,8 +199,8 @@ covers insn words range access is_range is_access = by_operands (op_of insn) (op
     by_operands op (Register _) unit taken r a = absurd (none-some range r)
 
 -- two ranges of one base that do not meet have no byte of memory in common
-no_byte : (x b c m n s t a : ℕ) → b + m ≤ 252 → c + n ≤ 252 → (b + m ≤ c) ⊎ (c + n ≤ b)
-    → s ≡ (x + (2 ^ 32 - 124) + b) % 2 ^ 32 → t ≡ (x + (2 ^ 32 - 124) + c) % 2 ^ 32 → s ≤ a → a < s + m → t ≤ a
+no_byte : (x b c m n s t a : ℕ) → b + m ≤ 262140 → c + n ≤ 262140 → (b + m ≤ c) ⊎ (c + n ≤ b)
+    → s ≡ (x + (2 ^ 32 - 131068) + b) % 2 ^ 32 → t ≡ (x + (2 ^ 32 - 131068) + c) % 2 ^ 32 → s ≤ a → a < s + m → t ≤ a
     → a < t + n → ⊥
 no_byte x b c m n s t a one other (inl apart) at_s at_t low high low' high' = omega arith
 no_byte x b c m n s t a one other (inr apart) at_s at_t low high low' high' = omega arith
@@ -209,7 +224,7 @@ small-offset insn reg base form k e =
     (λ (o : Operands). takes (op_of insn) o unit.0 ≡ true) e unit.1 in
     let fits = small k (offset_fits (op_of insn) reg base form k unit.0 taken) in (
       subst (λ (z : ℤ). pos 0 ≤ℤ z) (sym fits.0) (omega (arith, ints)),
-      subst (λ (z : ℤ). z ≤ℤ pos 31) (sym fits.0)
+      subst (λ (z : ℤ). z ≤ℤ pos 32767) (sym fits.0)
           (omega (arith, ints, fits.1)),
     )
 

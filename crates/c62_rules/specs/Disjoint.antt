@@ -16,7 +16,7 @@ use Rattle.c62_insn.specs.Insn.{op_of, operands_of, operand_reads}
 use Rattle.c62_insn.specs.Effect.{access_of}
 use Rattle.c62_rules.specs.Exclusive.{is_written_by, IsUnwritten}
 
--- The bytes that an access with a constant offset covers, counted from 124 bytes before its base: no such offset is
+-- The bytes that an access with a constant offset covers, counted from 131,068 bytes before its base: no such offset is
 -- greater.
 pub record Range : Type 0 where
   pub base : Reg
@@ -25,11 +25,11 @@ pub record Range : Type 0 where
 
 -- where they begin, of the offset in bytes
 abbrev pub begin_of : AddressForm → ℕ → ℕ
-begin_of Plus offset = 124 + offset
-begin_of PreIncrement offset = 124 + offset
-begin_of Minus offset = 124 - offset
-begin_of PreDecrement offset = 124 - offset
-begin_of _ offset = 124
+begin_of Plus offset = 131068 + offset
+begin_of PreIncrement offset = 131068 + offset
+begin_of Minus offset = 131068 - offset
+begin_of PreDecrement offset = 131068 - offset
+begin_of _ offset = 131068
 
 abbrev pub range_of : Op → Operands → Option Range
 range_of op (Access _ base form (ByConstant k)) =
@@ -55,10 +55,10 @@ are_disjoint block i j = disjoint_by block i j (range_in (slice_get block i)) (r
 
 -- ---- laws
 
--- a constant offset of an instruction is 0 to 31
+-- a constant offset of an instruction is 0 to 32,767, by whichever form it is taken
 abbrev pub HasSmallOffset : Insn → Type 0
 HasSmallOffset insn =
-    (reg base : Reg) (form : AddressForm) (k : ℤ) → operands_of insn ≡ Access reg base form (ByConstant k) → (pos 0 ≤ℤ k) × (k ≤ℤ pos 31)
+    (reg base : Reg) (form : AddressForm) (k : ℤ) → operands_of insn ≡ Access reg base form (ByConstant k) → (pos 0 ≤ℤ k) × (k ≤ℤ pos 32767)
 
 -- the access of an instruction, with these words in registers
 abbrev pub IsAccess : Insn → (Reg → ℕ) → MemoryAccess → Type 0
@@ -72,7 +72,7 @@ EndsInMemory access = access.address + access.size ≤ 65536
 abbrev pub LiesAtItsRange : Insn → Type 0
 LiesAtItsRange insn =
     (words : Reg → ℕ) (range : Range) (access : MemoryAccess) → range_in (Some insn) ≡ Some range → IsAccess insn words access → EndsInMemory access
-    → (access.address ≡ (words range.base + (2 ^ 32 - 124) + range.begin) % 2 ^ 32) × (access.size ≡ range.size)
+    → (access.address ≡ (words range.base + (2 ^ 32 - 131068) + range.begin) % 2 ^ 32) × (access.size ≡ range.size)
 
 -- a byte of memory that an access covers
 abbrev pub IsCovered : MemoryAccess → ℕ → Type 0

@@ -65,7 +65,7 @@ pub fn exclusive_is_told()
     ensures { (block : List Insn) (i j : ℕ) (p q : Insn) → ExclusiveIsTold block i j p q }
 {}
 
-/// A constant offset of an access is 0 to 31.
+/// A constant offset of an access is 0 to 32,767.
 pub fn offsets_are_small()
     ensures { (insn : Insn) → HasSmallOffset insn }
 {}

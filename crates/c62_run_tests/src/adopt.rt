@@ -2,6 +2,7 @@
 
 use crate::expect::equal;
 use c62_answer::run_on_bytes;
+use c62_op::InstructionSet;
 use std::process::Abort;
 use std::sync::Wait;
 use std::test::Fail;
@@ -132,7 +133,7 @@ fn refuses<H: AllocGlobal + Threads + Wait + Abort + Sync>(
     text: &[u8],
     expected: &str,
 ) {
-    let ran = run_on_bytes(rt, words, text);
+    let ran = run_on_bytes(InstructionSet::Core, rt, words, text);
     equal(rt, &ran.errors.as_slice(), &expected.as_bytes());
     equal(rt, &ran.status, &1);
     assert!(rt; ran.output.is_empty());
@@ -141,7 +142,7 @@ fn refuses<H: AllocGlobal + Threads + Wait + Abort + Sync>(
 #[test]
 fn adopted_texts(rt: HostRuntime) -> Result<(), Fail> {
     for (words, text, listing, told) in &ADOPTED {
-        let ran = run_on_bytes(&rt, *words, text);
+        let ran = run_on_bytes(InstructionSet::Core, &rt, *words, text);
         equal(&rt, &ran.output.as_slice(), &listing.as_bytes());
         equal(&rt, &ran.errors.as_slice(), &told.as_bytes());
         equal(&rt, &ran.status, &0);
@@ -205,7 +206,7 @@ fn laying_directives(rt: HostRuntime) -> Result<(), Fail> {
 fn lacking_texts(rt: HostRuntime) -> Result<(), Fail> {
     for (text, refusal, told) in &LACKING {
         refuses(&rt, &["adopt"], text, refusal);
-        let ran = run_on_bytes(&rt, &["adopt", "--drain"], text);
+        let ran = run_on_bytes(InstructionSet::Core, &rt, &["adopt", "--drain"], text);
         equal(&rt, &ran.errors.as_slice(), &told.as_bytes());
         equal(&rt, &ran.status, &0);
     }
@@ -219,7 +220,7 @@ fn longest_texts(rt: HostRuntime) -> Result<(), Fail> {
     for _ in 0..MOST_COMMENTS {
         text.extend_from_slice(COMMENT)?;
     }
-    let ran = run_on_bytes(&rt, &["adopt"], &text);
+    let ran = run_on_bytes(InstructionSet::Core, &rt, &["adopt"], &text);
     equal(&rt, &ran.status, &0);
     assert!(rt; ran.output.is_empty());
     assert!(rt; ran.errors.is_empty());

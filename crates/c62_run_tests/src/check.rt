@@ -3,6 +3,7 @@
 use crate::expect::equal;
 use crate::texts::refuses;
 use c62_answer::run_on_bytes;
+use c62_op::InstructionSet;
 use std::process::Abort;
 use std::sync::Wait;
 use std::test::Fail;
@@ -219,7 +220,7 @@ fn checks<H: AllocGlobal + Threads + Wait + Abort + Sync>(
     status: u8,
     expected: &str,
 ) {
-    let ran = run_on_bytes(rt, &["check"], input);
+    let ran = run_on_bytes(InstructionSet::Core, rt, &["check"], input);
     equal(rt, &ran.output.as_slice(), &expected.as_bytes());
     assert!(rt; ran.errors.is_empty());
     equal(rt, &ran.status, &status);
@@ -239,13 +240,13 @@ fn checked_texts(rt: HostRuntime) -> Result<(), Fail> {
 #[test]
 fn checked_loops(rt: HostRuntime) -> Result<(), Fail> {
     for (words, input, status, expected) in &LOOPS {
-        let ran = run_on_bytes(&rt, words, input);
+        let ran = run_on_bytes(InstructionSet::Core, &rt, words, input);
         equal(&rt, &ran.output.as_slice(), &expected.as_bytes());
         assert!(rt; ran.errors.is_empty());
         equal(&rt, &ran.status, status);
     }
     for (words, input, status, expected) in &LOOPLESS {
-        let ran = run_on_bytes(&rt, words, input);
+        let ran = run_on_bytes(InstructionSet::Core, &rt, words, input);
         equal(&rt, &ran.errors.as_slice(), &expected.as_bytes());
         assert!(rt; ran.output.is_empty());
         equal(&rt, &ran.status, status);

@@ -2,6 +2,7 @@
 
 use crate::expect::equal;
 use c62_answer::run_on_bytes;
+use c62_op::InstructionSet;
 use std::test::Fail;
 
 /// Words, a text of packets, and the report of its flight.
@@ -97,7 +98,7 @@ const FLOWN: [(&[&str], &[u8], &str); 15] = [
 #[test]
 fn flights(rt: HostRuntime) -> Result<(), Fail> {
     for (words, text, report) in &FLOWN {
-        let ran = run_on_bytes(&rt, words, text);
+        let ran = run_on_bytes(InstructionSet::Core, &rt, words, text);
         equal(&rt, &ran.output.as_slice(), &report.as_bytes());
         assert!(rt; ran.errors.is_empty());
         equal(&rt, &ran.status, &0);
@@ -144,7 +145,7 @@ const REFUSED: [(&[&str], &[u8], &str); 8] = [
 #[test]
 fn refused_flights(rt: HostRuntime) -> Result<(), Fail> {
     for (words, text, told) in &REFUSED {
-        let ran = run_on_bytes(&rt, words, text);
+        let ran = run_on_bytes(InstructionSet::Core, &rt, words, text);
         assert!(rt; ran.output.is_empty());
         equal(&rt, &ran.errors.as_slice(), &told.as_bytes());
         equal(&rt, &ran.status, &1);

@@ -2,6 +2,7 @@
 
 use crate::expect::equal;
 use c62_answer::run_on_bytes;
+use c62_op::InstructionSet;
 use std::process::Abort;
 use std::sync::Wait;
 use std::test::Fail;
@@ -132,7 +133,7 @@ const ROWS: [(&[&str], &[u8], u8, &str, &str); 13] = [
 #[test]
 fn pipelined_texts(rt: HostRuntime) -> Result<(), Fail> {
     for (words, text, status, written, told) in &ROWS {
-        let ran = run_on_bytes(&rt, *words, text);
+        let ran = run_on_bytes(InstructionSet::Core, &rt, *words, text);
         equal(&rt, &ran.output.as_slice(), &written.as_bytes());
         equal(&rt, &ran.errors.as_slice(), &told.as_bytes());
         equal(&rt, &ran.status, status);

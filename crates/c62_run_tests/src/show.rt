@@ -2,6 +2,7 @@
 
 use crate::expect::equal;
 use c62_answer::run_on_bytes;
+use c62_op::InstructionSet;
 use std::test::Fail;
 
 /// Words and a text, and the picture of its blocks.
@@ -346,7 +347,7 @@ fn longest_path_lines(rt: HostRuntime) -> Result<(), Fail> {
         for _ in 0..26 {
             text.extend_from_slice(b"ADD A1,A1,A1\n")?;
         }
-        let ran = run_on_bytes(&rt, &["show", "--turns"], &text);
+        let ran = run_on_bytes(InstructionSet::Core, &rt, &["show", "--turns"], &text);
         let front = format!(in rt.alloc(); "{PATH_HEAD}{path}")?;
         equal(&rt, &ran.status, &0);
         assert!(rt; ran.output.starts_with(front.as_bytes()));
@@ -357,7 +358,7 @@ fn longest_path_lines(rt: HostRuntime) -> Result<(), Fail> {
 #[test]
 fn pictures(rt: HostRuntime) -> Result<(), Fail> {
     for (words, text, picture) in &SHOWN {
-        let ran = run_on_bytes(&rt, *words, text);
+        let ran = run_on_bytes(InstructionSet::Core, &rt, *words, text);
         equal(&rt, &ran.status, &0);
         equal(&rt, &ran.output.as_slice(), &picture.as_bytes());
         assert!(rt; ran.errors.is_empty());
@@ -373,7 +374,7 @@ fn pictures_of_long_texts(rt: HostRuntime) -> Result<(), Fail> {
             text.extend_from_slice(line)?;
         }
         text.extend_from_slice(rest)?;
-        let ran = run_on_bytes(&rt, &["show", "--turns"], &text);
+        let ran = run_on_bytes(InstructionSet::Core, &rt, &["show", "--turns"], &text);
         equal(&rt, &ran.status, &0);
         assert!(rt; ran.output.starts_with(front.as_bytes()));
         assert!(rt; ran.errors.is_empty());
@@ -404,7 +405,7 @@ const REFUSED: [(&[&str], &[u8], &str); 4] = [
 #[test]
 fn packets_that_are_none(rt: HostRuntime) -> Result<(), Fail> {
     for (words, text, told) in &REFUSED {
-        let ran = run_on_bytes(&rt, *words, text);
+        let ran = run_on_bytes(InstructionSet::Core, &rt, *words, text);
         equal(&rt, &ran.status, &1);
         assert!(rt; ran.output.is_empty());
         equal(&rt, &ran.errors.as_slice(), &told.as_bytes());

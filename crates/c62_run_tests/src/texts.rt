@@ -2,6 +2,7 @@
 
 use crate::expect::equal;
 use c62_answer::run_on_bytes;
+use c62_op::InstructionSet;
 use std::process::Abort;
 use std::sync::Wait;
 use std::test::Fail;
@@ -191,6 +192,9 @@ Options:
 
 `c62 lint kernel.s` prints all faults of a text, and `c62 explain BadUnit` says what a
 fault is; --explain behind a command says what is wrong with its text.
+
+`--isa full` behind a command takes all instructions of the C62x's integer core. Without it
+c62 knows 41 of them.
 ",
         "c62 run kernel.s A4=8",
     ),
@@ -382,7 +386,7 @@ pub(crate) fn refuses<H: AllocGlobal + Threads + Wait + Abort + Sync>(
     text: &[u8],
     expected: &str,
 ) {
-    let ran = run_on_bytes(rt, &[command], text);
+    let ran = run_on_bytes(InstructionSet::Core, rt, &[command], text);
     equal(rt, &ran.errors.as_slice(), &expected.as_bytes());
     equal(rt, &ran.status, &1);
     assert!(rt; ran.output.is_empty());
@@ -391,7 +395,7 @@ pub(crate) fn refuses<H: AllocGlobal + Threads + Wait + Abort + Sync>(
 #[test]
 fn listings(rt: HostRuntime) -> Result<(), Fail> {
     for (words, text, listing) in &LISTED {
-        let ran = run_on_bytes(&rt, *words, text);
+        let ran = run_on_bytes(InstructionSet::Core, &rt, *words, text);
         equal(&rt, &ran.status, &0);
         equal(&rt, &ran.output.as_slice(), &listing.as_bytes());
         assert!(rt; ran.errors.is_empty());
@@ -408,7 +412,7 @@ fn longest_block(rt: HostRuntime) -> Result<(), Fail> {
         text.extend_from_slice(b"MVK 1,A1\n")?;
         listing.extend_from_slice(b"   MVK .S1 1,A1\n")?;
     }
-    let ran = run_on_bytes(&rt, &["pack"], &text);
+    let ran = run_on_bytes(InstructionSet::Core, &rt, &["pack"], &text);
     equal(&rt, &ran.status, &0);
     equal(&rt, &ran.output.as_slice(), &listing.as_slice());
     assert!(rt; ran.errors.is_empty());
@@ -426,7 +430,12 @@ fn longest_program(rt: HostRuntime) -> Result<(), Fail> {
             text.extend_from_slice(b"ADD 1,A1,A1\n")?;
         }
     }
-    let ran = run_on_bytes(&rt, &["run", "--turns", "--blocks", "64"], &text);
+    let ran = run_on_bytes(
+        InstructionSet::Core,
+        &rt,
+        &["run", "--turns", "--blocks", "64"],
+        &text,
+    );
     equal(&rt, &ran.status, &0);
     let report = "blocks 64\ncycles 16384\nexit end\nA1 00004000\n";
     equal(&rt, &ran.output.as_slice(), &report.as_bytes());
@@ -455,7 +464,7 @@ fn refused_texts(rt: HostRuntime) -> Result<(), Fail> {
 #[test]
 fn told_words(rt: HostRuntime) -> Result<(), Fail> {
     for (words, text, example) in &TOLD {
-        let ran = run_on_bytes(&rt, *words, b"");
+        let ran = run_on_bytes(InstructionSet::Core, &rt, *words, b"");
         let expected = if example.is_empty() {
             format!(in rt.alloc(); "{text}")?
         } else {

@@ -4,6 +4,7 @@ use crate::expect::{equal, equal_in};
 use c62_bound::{Kind, Need, bound, critical_path, least_length, path_length};
 use c62_depend::Plan;
 use c62_insn::Side::{self, A, B};
+use c62_op::InstructionSet;
 use c62_read::read_program;
 use std::alloc::Global;
 use std::process::Abort;
@@ -168,7 +169,7 @@ STW A0,*A8\nSTW A0,*+A8[1]\nSTW A0,*+A8[2]\nSTW A0,*+A8[3]",
 
 /// The plan of the only block of a text.
 fn plan_of(rt: &impl Abort, alloc: Global, text: &str) -> Result<Plan, Fail> {
-    let mut blocks = read_program(alloc, text.as_bytes())?.into_blocks();
+    let mut blocks = read_program(InstructionSet::Core, alloc, text.as_bytes())?.into_blocks();
     equal_in(rt, &text, &blocks.len(), &1);
     let block = blocks.pop().expect(rt, "a block");
     match Plan::new(alloc, block) {

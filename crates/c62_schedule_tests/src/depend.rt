@@ -3,6 +3,7 @@
 use crate::expect::{equal, equal_in};
 use c62_depend::Plan;
 use c62_insn::{Letter, Side, Unit};
+use c62_op::InstructionSet;
 use c62_read::{Block, read_program};
 use std::alloc::Global;
 use std::process::Abort;
@@ -167,7 +168,7 @@ const REPEATED: [&str; 4] = [
 
 /// The plan of the only block of a text.
 fn plan_of(rt: &impl Abort, alloc: Global, text: &str) -> Result<Plan, Fail> {
-    let mut blocks = read_program(alloc, text.as_bytes())?.into_blocks();
+    let mut blocks = read_program(InstructionSet::Core, alloc, text.as_bytes())?.into_blocks();
     equal_in(rt, &text, &blocks.len(), &1);
     let block = blocks.pop().expect(rt, "a block");
     match Plan::new(alloc, block) {
@@ -178,9 +179,9 @@ fn plan_of(rt: &impl Abort, alloc: Global, text: &str) -> Result<Plan, Fail> {
 
 /// The only block of a text, read again where memory is refused.
 fn block_again(rt: &impl Abort, alloc: Global, text: &str) -> Result<Block, Fail> {
-    let program = match read_program(alloc, text.as_bytes()) {
+    let program = match read_program(InstructionSet::Core, alloc, text.as_bytes()) {
         Ok(program) => program,
-        Err(_) => read_program(alloc, text.as_bytes())?,
+        Err(_) => read_program(InstructionSet::Core, alloc, text.as_bytes())?,
     };
     Ok(program.into_blocks().pop().expect(rt, "a block"))
 }

@@ -3,6 +3,7 @@
 use crate::expect::{equal, equal_in};
 use c62_bound::least_length;
 use c62_depend::Plan;
+use c62_op::InstructionSet;
 use c62_raised::raised_length;
 use c62_read::read_program;
 use std::alloc::Global;
@@ -56,7 +57,7 @@ const RAISED: [(&str, u32, u32); 18] = [
 
 /// The plan of the only block of a text.
 fn plan_of(rt: &impl Abort, alloc: Global, text: &str) -> Result<Plan, Fail> {
-    let mut blocks = read_program(alloc, text.as_bytes())?.into_blocks();
+    let mut blocks = read_program(InstructionSet::Core, alloc, text.as_bytes())?.into_blocks();
     equal_in(rt, &text, &blocks.len(), &1);
     let block = blocks.pop().expect(rt, "a block");
     match Plan::new(alloc, block) {

@@ -2,6 +2,7 @@
 
 use crate::expect::equal_in;
 use c62_depend::Plan;
+use c62_op::InstructionSet;
 use c62_read::read_program;
 use c62_refute::{Search, search_for};
 use c62_sheet::are_lawful;
@@ -35,7 +36,7 @@ const LENGTHS: [(&str, u16, u32); 7] = [
 
 /// The plan of the only block of a text.
 fn plan_of(rt: &impl Abort, alloc: Global, text: &str) -> Result<Plan, Fail> {
-    let mut blocks = read_program(alloc, text.as_bytes())?.into_blocks();
+    let mut blocks = read_program(InstructionSet::Core, alloc, text.as_bytes())?.into_blocks();
     equal_in(rt, &text, &blocks.len(), &1);
     match Plan::new(alloc, blocks.pop().expect(rt, "a block")) {
         Ok(plan) => Ok(plan),

@@ -3,6 +3,7 @@
 use crate::expect::{equal, equal_in};
 use c62_depend::Plan;
 use c62_insn::{Letter, Side, Unit};
+use c62_op::InstructionSet;
 use c62_read::read_program;
 use c62_sheet::{Counts, Entry, Sheet, Spot, Who, are_lawful};
 use std::alloc::Global;
@@ -220,7 +221,7 @@ const WHOLES: [(&[Spot], bool); 6] = [
 
 /// An empty sheet of the only block of a text.
 fn sheet_of(rt: &impl Abort, alloc: Global, text: &str) -> Result<Sheet, Fail> {
-    let mut blocks = read_program(alloc, text.as_bytes())?.into_blocks();
+    let mut blocks = read_program(InstructionSet::Core, alloc, text.as_bytes())?.into_blocks();
     equal_in(rt, &text, &blocks.len(), &1);
     let block = blocks.pop().expect(rt, "a block");
     let plan = match Plan::new(alloc, block) {

@@ -3,6 +3,7 @@
 use crate::expect::equal;
 use c62_depend::Plan;
 use c62_insn::{Letter, Side, Unit};
+use c62_op::InstructionSet;
 use c62_packet::Placed;
 use c62_read::read_program;
 use c62_why::{Cause, Why, whys_of};
@@ -108,7 +109,7 @@ fn kind_of(place: u8) -> &'static str {
 #[test]
 fn each_has_its_cause(rt: HostRuntime) -> Result<(), Fail> {
     for row in &ROWS {
-        let program = read_program(rt.alloc(), row.text.as_bytes())?;
+        let program = read_program(InstructionSet::Core, rt.alloc(), row.text.as_bytes())?;
         for block in program.into_blocks() {
             let Ok(plan) = Plan::new(rt.alloc(), block) else {
                 return Err(Fail::new("memory ran out"));

@@ -18,6 +18,7 @@ use Rattle.c62_explain.specs.Sentence.{sentence}
 use Rattle.c62_explain.proofs.HintLemmas.{both_help}
 use Rattle.c62_teach.specs.Linted.{BeginsWith, IsLintedSerial}
 use Rattle.c62_teach.specs.Taught.{TeachesSerial}
+use Rattle.c62_op.specs.declared.set.InstructionSet.{InstructionSet}
 
 -- a line isn't empty
 some_line : (name : List ℕ) (fault : ReadFault) (place : Place) → 1 ≤ length (lint_line name fault place)
@@ -35,41 +36,46 @@ some_lines first others lines whole some =
     grind (arith, nat_tests)
 
 -- what is told of a text, by its first fault
-pub record IsTold (name text lines : List ℕ) {T : Type 0} (r : Result T Refusal) : Type 0 where
+pub record IsTold (isa : InstructionSet) (name text lines : List ℕ) {T : Type 0} (r : Result T Refusal) : Type 0 where
   pub refused : not (length lines == 0) ≡ is_err r
-  pub first : IfErr r (λ refusal. BeginsWith name text refusal lines)
+  pub first : IfErr r (λ refusal. BeginsWith isa name text refusal lines)
 
-told_by : (name text lines : List ℕ) (faults : List ReadFault) (refusals : List Refusal) (n : ℕ) {T : Type 0}
+told_by : (isa : InstructionSet) (name text lines : List ℕ) (faults : List ReadFault) (refusals : List Refusal)
+    (n : ℕ) {T : Type 0}
     (r : Result T Refusal)
-    → 1 ≤ n → map refusal_of faults ≡ take n refusals → Lints name text faults lines
+    → 1 ≤ n → map refusal_of faults ≡ take n refusals → Lints isa name text faults lines
     → first_among refusals ≡ result_err r
-    → IsTold name text lines r
-told_by name text lines faults refusals zero r some are says first = absurd (omega arith)
-told_by name text lines [] [] (suc n) (Ok x) some are says first = rw says (record { refused = refl; first = tt })
-told_by name text lines [] [] (suc n) (Err e) some are says first = absurd cc
-told_by name text lines [] (refusal ∷ refusals) (suc n) r some are says first = absurd cc
-told_by name text lines (fault ∷ faults) [] (suc n) r some are says first = absurd cc
-told_by name text lines (fault ∷ faults) (refusal ∷ refusals) (suc n) (Ok x) some are says first = absurd cc
-told_by name text lines (fault ∷ faults) (refusal ∷ refusals) (suc n) (Err e) some are (line, others, whole, one, more)
+    → IsTold isa name text lines r
+told_by isa name text lines faults refusals zero r some are says first = absurd (omega arith)
+told_by isa name text lines [] [] (suc n) (Ok x) some are says first = rw says (record { refused = refl; first = tt })
+told_by isa name text lines [] [] (suc n) (Err e) some are says first = absurd cc
+told_by isa name text lines [] (refusal ∷ refusals) (suc n) r some are says first = absurd cc
+told_by isa name text lines (fault ∷ faults) [] (suc n) r some are says first = absurd cc
+told_by isa name text lines (fault ∷ faults) (refusal ∷ refusals) (suc n) (Ok x) some are says first = absurd cc
+told_by isa name text lines (fault ∷ faults) (refusal ∷ refusals) (suc n) (Err e) some are
+    (line, others, whole, one, more)
     first = record {
       refused = some_lines line others lines whole (rw (one.says) (some_line name fault one.place));
       first = record { fault = fault; same = cc; first = line; others = others; whole = whole; told = one };
     }
 
-pub linted_by : (most : ℕ) (name text lines : List ℕ) → 1 ≤ most → LintsText name text most lines
-    → IsLintedSerial most name text lines (not (length lines == 0))
-linted_by most name text lines some says =
+pub linted_by : (isa : InstructionSet) (most : ℕ) (name text lines : List ℕ) → 1 ≤ most
+    → LintsText isa name text most lines
+    → IsLintedSerial isa most name text lines (not (length lines == 0))
+linted_by isa most name text lines some says =
     let least : 1 ≤ few most = omega (arith, some) in
-    let told = told_by name text lines says.faults (faults_in text) (few most) (program_in text) least says.all
-    says.says (first_refusal text) in
+    let told = told_by isa name text lines says.faults (faults_in isa text) (few most)
+    (program_in isa text) least says.all
+    says.says (first_refusal isa text) in
     record { all = says; refused = told.refused; first = told.first }
 
 -- help may stand behind an explanation
-more_explained : (name text out more : List ℕ) (fault : ReadFault) → fault.line ≢ 0 → Explains name text fault out
+more_explained : (isa : InstructionSet) (name text out more : List ℕ) (fault : ReadFault) → fault.line ≢ 0
+    → Explains isa name text fault out
     → AddsHelp fault.line out more
-    → Explains name text fault more
-more_explained name text out more fault some (inl none) added = absurd (some none.0)
-more_explained name text out more fault some (inr pictured) (hint, is, helps) = inr (record {
+    → Explains isa name text fault more
+more_explained isa name text out more fault some (inl none) added = absurd (some none.0)
+more_explained isa name text out more fault some (inr pictured) (hint, is, helps) = inr (record {
   place = pictured.place;
   there = pictured.there;
   help = pictured.help ++ hint;
@@ -77,15 +83,17 @@ more_explained name text out more fault some (inr pictured) (hint, is, helps) = 
   says = is ∙ ap (λ (front : List ℕ). front ++ hint) pictured.says ∙ append_assoc _ pictured.help hint;
 })
 
-pub taught_by : (name text more : List ℕ) (fault : ReadFault) → fault.cause ≢ Memory → Fails fault (program_in text)
-    → Explains name text fault more
-    → TeachesSerial name text more
-taught_by name text more fault known (inl memory) explains = absurd (known (ap (λ (f : ReadFault). f.cause) memory))
-taught_by name text more fault known (inr is) explains = rw is
+pub taught_by : (isa : InstructionSet) (name text more : List ℕ) (fault : ReadFault) → fault.cause ≢ Memory
+    → Fails fault (program_in isa text)
+    → Explains isa name text fault more
+    → TeachesSerial isa name text more
+taught_by isa name text more fault known (inl memory) explains = absurd (known (ap (λ (f : ReadFault). f.cause) memory))
+taught_by isa name text more fault known (inr is) explains = rw is
     (record { fault = fault; same = refl; explains = explains })
 
-pub taught_more : (name text out more : List ℕ) (fault : ReadFault) → fault.cause ≢ Memory → fault.line ≢ 0
-    → Fails fault (program_in text)
-    → Explains name text fault out → AddsHelp fault.line out more → TeachesSerial name text more
-taught_more name text out more fault known some fails explains added =
-    taught_by name text more fault known fails (more_explained name text out more fault some explains added)
+pub taught_more : (isa : InstructionSet) (name text out more : List ℕ) (fault : ReadFault) → fault.cause ≢ Memory
+    → fault.line ≢ 0
+    → Fails fault (program_in isa text)
+    → Explains isa name text fault out → AddsHelp fault.line out more → TeachesSerial isa name text more
+taught_more isa name text out more fault known some fails explains added =
+    taught_by isa name text more fault known fails (more_explained isa name text out more fault some explains added)

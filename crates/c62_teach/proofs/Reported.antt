@@ -29,6 +29,7 @@ use Rattle.c62_answer.specs.Texts.{IsNoProgram, SaysProgram}
 use Rattle.c62_answer.proofs.OneText.{one_program}
 use Rattle.c62_teach.specs.Faulted.{TellsFlight, TellsIf, TellsPackets, TellsProgram, TellsReported, TellsRun}
 use Rattle.c62_teach.specs.Faulted.{TellsRunBy, TellsStrict}
+use Rattle.c62_op.specs.declared.set.InstructionSet.{InstructionSet}
 
 -- ---- one opening
 
@@ -98,24 +99,26 @@ told_lines program settings course more opening final chain tells begin runs =
     tells_lines program tells.opening course.blocks tells.faults chain final sound none tells.found
     (subst (λ (machine : Machine). RunsProgram program machine course.blocks chain final) (sym same) runs))
 
-is_program : (text : List ℕ) (program : List Serial) (message : List ℕ) → SaysProgram text program
-    → IsNoProgram text message → ⊥
-is_program text program message says none = rw says at none
+is_program : (isa : InstructionSet) (text : List ℕ) (program : List Serial) (message : List ℕ)
+    → SaysProgram isa text program
+    → IsNoProgram isa text message → ⊥
+is_program isa text program message says none = rw says at none
 
 -- behind a strict run of a text stands what is told of the program that it says
-pub strict_lines : (program : List Serial) (settings : List Setting) (course : Course) (text more : List ℕ)
+pub strict_lines : (isa : InstructionSet) (program : List Serial) (settings : List Setting) (course : Course)
+    (text more : List ℕ)
     (opening final : Machine) (chain : Chain)
-    → course.strict ≡ true → TellsStrict settings course text more → SaysProgram text program
+    → course.strict ≡ true → TellsStrict isa settings course text more → SaysProgram isa text program
     → IsOpening settings opening → RunsProgram program opening course.blocks chain final
     → TellsReported opening.base more final
-strict_lines program settings course text more opening final chain strict tells says begin runs =
-    either (subst (λ b. TellsIf b (TellsProgram settings course text more) more) strict tells)
+strict_lines isa program settings course text more opening final chain strict tells says begin runs =
+    either (subst (λ b. TellsIf b (TellsProgram isa settings course text more) more) strict tells)
   where
-    either : TellsProgram settings course text more → TellsReported opening.base more final
+    either : TellsProgram isa settings course text more → TellsReported opening.base more final
     either (inl (other, is, told)) =
         told_lines program settings course more opening final chain
-        (subst (λ p. TellsRun p settings course more) (one_program text other program is says) told) begin runs
-    either (inr (message, none, nothing)) = absurd (is_program text program message says none)
+        (subst (λ p. TellsRun p settings course more) (one_program isa text other program is says) told) begin runs
+    either (inr (message, none, nothing)) = absurd (is_program isa text program message says none)
 
 pub packet_lines : (packets : List Packed) (settings : List Setting) (course : Course) (outcome : Outcome)
     (answer more : List ℕ)

@@ -33,79 +33,97 @@ use Rattle.c62_answer.specs.Texts.{SaysProgram}
 use Rattle.c62_teach.specs.Faulted.{TellsCode, TellsFlight, TellsPackets, TellsProgram, TellsRows, TellsRun}
 use Rattle.c62_teach.specs.Faulted.{TellsStanding, TellsTaken}
 use Rattle.c62_read.specs.Program.{Fails}
+use Rattle.c62_op.specs.declared.set.InstructionSet.{InstructionSet}
 
 -- ---- serial text
 
-pub program_some : (settings : List Setting) (course : Course) (text more : List ℕ) (program : List Serial)
-    → SaysProgram text program → TellsRun program settings course more → TellsProgram settings course text more
-program_some settings course text more program says tells = inl (program, says, tells)
+pub program_some : (isa : InstructionSet) (settings : List Setting) (course : Course) (text more : List ℕ)
+    (program : List Serial)
+    → SaysProgram isa text program → TellsRun program settings course more → TellsProgram isa settings course text more
+program_some isa settings course text more program says tells = inl (program, says, tells)
 
-pub program_none : (settings : List Setting) (course : Course) (text more : List ℕ) (fault : ReadFault)
-    → fault.cause ≢ Memory → Fails fault (program_in text) → more ≡ [] → TellsProgram settings course text more
-program_none settings course text more fault known (inl memory) none =
+pub program_none : (isa : InstructionSet) (settings : List Setting) (course : Course) (text more : List ℕ)
+    (fault : ReadFault)
+    → fault.cause ≢ Memory → Fails fault (program_in isa text) → more ≡ [] → TellsProgram isa settings course text more
+program_none isa settings course text more fault known (inl memory) none =
     absurd (known (ap (λ (f : ReadFault). f.cause) memory))
-program_none settings course text more fault known (inr is) none =
+program_none isa settings course text more fault known (inr is) none =
     inr (fault_message fault.line fault.cause, rw is refl, none)
 
 -- ---- packets as they stand
 
-pub listing_some : (settings : List Setting) (course : Course) (text more : List ℕ) (packets : List Packed)
-    → IsRead text packets → TellsPackets packets settings course more → TellsStanding Listed settings course text more
-listing_some settings course text more packets read tells = inl (packets, read, tells)
+pub listing_some : (isa : InstructionSet) (settings : List Setting) (course : Course) (text more : List ℕ)
+    (packets : List Packed)
+    → IsRead isa text packets → TellsPackets packets settings course more
+    → TellsStanding isa Listed settings course text more
+listing_some isa settings course text more packets read tells = inl (packets, read, tells)
 
-pub listing_none : (settings : List Setting) (course : Course) (text more : List ℕ) (fault : ListFault)
-    → fault ≢ NoStore → Refuses text fault → more ≡ [] → TellsStanding Listed settings course text more
-listing_none settings course text more fault known refused none =
+pub listing_none : (isa : InstructionSet) (settings : List Setting) (course : Course) (text more : List ℕ)
+    (fault : ListFault)
+    → fault ≢ NoStore → Refuses isa text fault → more ≡ [] → TellsStanding isa Listed settings course text more
+listing_none isa settings course text more fault known refused none =
     inr (list_message fault, record { fault = fault; known = known; refused = refused; told = refl }, none)
 
-pub written_some : (settings : List Setting) (course : Course) (text more : List ℕ) (packets : List Packed)
-    → IsAdopted false text packets 0 → TellsPackets packets settings course more
-    → TellsStanding Written settings course text more
-written_some settings course text more packets read tells = inl (packets, read, tells)
+pub written_some : (isa : InstructionSet) (settings : List Setting) (course : Course) (text more : List ℕ)
+    (packets : List Packed)
+    → IsAdopted isa false text packets 0 → TellsPackets packets settings course more
+    → TellsStanding isa Written settings course text more
+written_some isa settings course text more packets read tells = inl (packets, read, tells)
 
-pub written_none : (settings : List Setting) (course : Course) (text more : List ℕ) (fault : AdoptFault)
-    → fault ≢ NoRoom → RefusesPackets false text fault → more ≡ [] → TellsStanding Written settings course text more
-written_none settings course text more fault known refused none =
+pub written_none : (isa : InstructionSet) (settings : List Setting) (course : Course) (text more : List ℕ)
+    (fault : AdoptFault)
+    → fault ≢ NoRoom → RefusesPackets isa false text fault → more ≡ []
+    → TellsStanding isa Written settings course text more
+written_none isa settings course text more fault known refused none =
     inr (adopt_message fault, record { fault = fault; known = known; refused = refused; told = refl }, none)
 
 -- ---- packets in flight
 
-pub issuable : (code : List ℕ) (from : Option Text) (begun : Begun) → BeginsAs code from begun
+pub issuable : (isa : InstructionSet) (code : List ℕ) (from : Option Text) (begun : Begun)
+    → BeginsAs isa code from begun
     → IsIssuable (text_of begun.rows)
-issuable code from begun begins = rows_are_issuable begun.rows begins.rows
+issuable isa code from begun begins = rows_are_issuable begun.rows begins.rows
 
-pub rows_some : (from : Option Text) (settings : List Setting) (course : FlightCourse) (code more : List ℕ)
+pub rows_some : (isa : InstructionSet) (from : Option Text) (settings : List Setting) (course : FlightCourse)
+    (code more : List ℕ)
     (begun : Begun)
-    → BeginsAs code from begun → TellsFlight (text_of begun.rows) begun.first settings course more
-    → TellsRows from settings course code more
-rows_some from settings course code more begun begins tells =
+    → BeginsAs isa code from begun → TellsFlight (text_of begun.rows) begun.first settings course more
+    → TellsRows isa from settings course code more
+rows_some isa from settings course code more begun begins tells =
     inl (text_of begun.rows, begun.first, begins.is_text, tells)
 
-pub rows_none : (from : Option Text) (settings : List Setting) (course : FlightCourse) (code more : List ℕ)
+pub rows_none : (isa : InstructionSet) (from : Option Text) (settings : List Setting) (course : FlightCourse)
+    (code more : List ℕ)
     (fault : RowsFault)
-    → fault ≢ NoPlace → RefusesFrom code from fault → more ≡ [] → TellsRows from settings course code more
-rows_none from settings course code more fault known refused none = inr (fault, known, refused, none)
+    → fault ≢ NoPlace → RefusesFrom isa code from fault → more ≡ [] → TellsRows isa from settings course code more
+rows_none isa from settings course code more fault known refused none = inr (fault, known, refused, none)
 
-pub code_some : (from : Option Text) (settings : List Setting) (course : FlightCourse) (text code more : List ℕ)
-    → code_read text ≡ Ok code → TellsRows from settings course code more → TellsCode from settings course text more
-code_some from settings course text code more is tells =
-    let own : code_in (code_read text) ≡ code = ap code_in is in
-    inl (is ∙ ap Ok (sym own), subst (λ (c : List ℕ). TellsRows from settings course c more) (sym own) tells)
+pub code_some : (isa : InstructionSet) (from : Option Text) (settings : List Setting) (course : FlightCourse)
+    (text code more : List ℕ)
+    → code_read isa text ≡ Ok code → TellsRows isa from settings course code more
+    → TellsCode isa from settings course text more
+code_some isa from settings course text code more is tells =
+    let own : code_in (code_read isa text) ≡ code = ap code_in is in
+    inl (is ∙ ap Ok (sym own), subst (λ (c : List ℕ). TellsRows isa from settings course c more) (sym own) tells)
 
-pub code_none : (from : Option Text) (settings : List Setting) (course : FlightCourse) (text more : List ℕ)
+pub code_none : (isa : InstructionSet) (from : Option Text) (settings : List Setting) (course : FlightCourse)
+    (text more : List ℕ)
     (fault : AdoptFault)
-    → fault ≢ NoRoom → LacksCode text fault → more ≡ [] → TellsCode from settings course text more
-code_none from settings course text more fault known lacks none =
+    → fault ≢ NoRoom → LacksCode isa text fault → more ≡ [] → TellsCode isa from settings course text more
+code_none isa from settings course text more fault known lacks none =
     inr (adopt_message fault, record { fault = fault; known = known; lacks = lacks; told = refl }, none)
 
-pub taken_some : (name : Text) (from : Option Text) (settings : List Setting) (course : FlightCourse)
+pub taken_some : (isa : InstructionSet) (name : Text) (from : Option Text) (settings : List Setting)
+    (course : FlightCourse)
     (text taken more : List ℕ)
-    → IsTaken name text taken → TellsCode from settings course taken more → TellsTaken name from settings course
+    → IsTaken isa name text taken → TellsCode isa from settings course taken more
+    → TellsTaken isa name from settings course
     text more
-taken_some name from settings course text taken more is tells = inl (taken, is, tells)
+taken_some isa name from settings course text taken more is tells = inl (taken, is, tells)
 
-pub taken_none : (name : Text) (from : Option Text) (settings : List Setting) (course : FlightCourse)
+pub taken_none : (isa : InstructionSet) (name : Text) (from : Option Text) (settings : List Setting)
+    (course : FlightCourse)
     (text more : List ℕ)
-    → Lacks name text Nowhere → more ≡ [] → TellsTaken name from settings course text more
-taken_none name from settings course text more lacks none =
+    → Lacks isa name text Nowhere → more ≡ [] → TellsTaken isa name from settings course text more
+taken_none isa name from settings course text more lacks none =
     inr (rows_message NoStart, record { lacks = lacks; told = refl }, none)

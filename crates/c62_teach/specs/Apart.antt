@@ -11,6 +11,7 @@ use Rattle.c62_command.specs.declared.command.Course.{Course}
 use Rattle.c62_command.specs.CommandLine.{Ask, SerialReport, Document}
 use Rattle.c62_answer.specs.Texts.{IsNoProgram, SaysProgram}
 use Rattle.c62_answer.specs.Run.{IsOpening}
+use Rattle.c62_op.specs.declared.set.InstructionSet.{InstructionSet}
 
 -- Of a program's serial run from zeros with these settings: a line for each meeting of accesses from two of these registers, and one for each
 -- loop that has none; and whether there is one.
@@ -27,18 +28,18 @@ abbrev pub IsUntold : (lines : List ℕ) (meets : Bool) → Type 0
 IsUntold lines meets = (lines ≡ []) × (meets ≡ false)
 
 -- the text says a program, of whose run this is told, or none, and nothing is told
-abbrev pub WatchesText : List Setting → Course → (apart : List Reg) → (text lines : List ℕ) → (meets : Bool) → Type 0
-WatchesText settings course apart text lines meets =
-    ((program : List Serial) × SaysProgram text program × WatchesRun program settings course apart lines meets)
-    ⊎ ((message : List ℕ) × IsNoProgram text message × IsUntold lines meets)
+abbrev pub WatchesText : InstructionSet → List Setting → Course → (apart : List Reg) → (text lines : List ℕ) → (meets : Bool) → Type 0
+WatchesText isa settings course apart text lines meets =
+    ((program : List Serial) × SaysProgram isa text program × WatchesRun program settings course apart lines meets)
+    ⊎ ((message : List ℕ) × IsNoProgram isa text message × IsUntold lines meets)
 
 -- where no registers are named, nothing is told
-abbrev pub WatchesNamed : List Setting → Course → (apart : List Reg) → (text lines : List ℕ) → (meets : Bool) → Type 0
-WatchesNamed settings course [] text lines meets = IsUntold lines meets
-WatchesNamed settings course (reg ∷ regs) text lines meets = WatchesText settings course (reg ∷ regs) text lines meets
+abbrev pub WatchesNamed : InstructionSet → List Setting → Course → (apart : List Reg) → (text lines : List ℕ) → (meets : Bool) → Type 0
+WatchesNamed isa settings course [] text lines meets = IsUntold lines meets
+WatchesNamed isa settings course (reg ∷ regs) text lines meets = WatchesText isa settings course (reg ∷ regs) text lines meets
 
 -- of a serial run that names some this is told, and of all else nothing
-abbrev pub TellsApart : Ask → (text lines : List ℕ) → (meets : Bool) → Type 0
-TellsApart (SerialReport course settings apart) text lines meets = WatchesNamed settings course apart text lines meets
-TellsApart (Document ask) text lines meets = TellsApart ask text lines meets
-TellsApart ask text lines meets = IsUntold lines meets
+abbrev pub TellsApart : InstructionSet → Ask → (text lines : List ℕ) → (meets : Bool) → Type 0
+TellsApart isa (SerialReport course settings apart) text lines meets = WatchesNamed isa settings course apart text lines meets
+TellsApart isa (Document ask) text lines meets = TellsApart isa ask text lines meets
+TellsApart isa ask text lines meets = IsUntold lines meets

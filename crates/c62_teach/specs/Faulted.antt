@@ -26,6 +26,7 @@ use Rattle.c62_command.specs.CommandLine.{Ask, SerialReport, PacketReport, Stand
 use Rattle.c62_answer.specs.declared.outcome.Outcome.{Outcome}
 use Rattle.c62_answer.specs.Texts.{IsNoProgram, IsUncoded, IsUnreached, SaysNoPackets, SaysPackets, SaysProgram}
 use Rattle.c62_answer.specs.Run.{IsFlown, IsOpening, IsPacketReport, IsRunReport, IsSerialReport}
+use Rattle.c62_op.specs.declared.set.InstructionSet.{InstructionSet}
 
 -- ---- runs
 
@@ -52,34 +53,34 @@ TellsFlight flying first settings course more = TellsRunBy (λ opening faults. F
 -- ---- texts
 
 -- the text says a program, of whose run this is told, or none, and nothing is told
-abbrev pub TellsProgram : List Setting → Course → (text more : List ℕ) → Type 0
-TellsProgram settings course text more =
-    ((program : List Serial) × SaysProgram text program × TellsRun program settings course more)
-    ⊎ ((message : List ℕ) × IsNoProgram text message × (more ≡ []))
+abbrev pub TellsProgram : InstructionSet → List Setting → Course → (text more : List ℕ) → Type 0
+TellsProgram isa settings course text more =
+    ((program : List Serial) × SaysProgram isa text program × TellsRun program settings course more)
+    ⊎ ((message : List ℕ) × IsNoProgram isa text message × (more ≡ []))
 
 -- so it is with packets of this form
-abbrev pub TellsStanding : Form → List Setting → Course → (text more : List ℕ) → Type 0
-TellsStanding form settings course text more =
-    ((packets : List Packed) × SaysPackets form text packets × TellsPackets packets settings course more)
-    ⊎ ((message : List ℕ) × SaysNoPackets form text message × (more ≡ []))
+abbrev pub TellsStanding : InstructionSet → Form → List Setting → Course → (text more : List ℕ) → Type 0
+TellsStanding isa form settings course text more =
+    ((packets : List Packed) × SaysPackets isa form text packets × TellsPackets packets settings course more)
+    ⊎ ((message : List ℕ) × SaysNoPackets isa form text message × (more ≡ []))
 
 -- these lines of code are rows, of whose run in flight this is told, or they are refused, and nothing is told
-abbrev pub TellsRows : Option Text → List Setting → FlightCourse → (code more : List ℕ) → Type 0
-TellsRows from settings course code more =
-    ((flying : FlightText) × (first : ℕ) × IsTextFrom code from flying first × TellsFlight flying first settings course more)
-    ⊎ ((fault : RowsFault) × (fault ≢ NoPlace) × RefusesFrom code from fault × (more ≡ []))
+abbrev pub TellsRows : InstructionSet → Option Text → List Setting → FlightCourse → (code more : List ℕ) → Type 0
+TellsRows isa from settings course code more =
+    ((flying : FlightText) × (first : ℕ) × IsTextFrom isa code from flying first × TellsFlight flying first settings course more)
+    ⊎ ((fault : RowsFault) × (fault ≢ NoPlace) × RefusesFrom isa code from fault × (more ≡ []))
 
 -- the text has such code, or none, and nothing is told
-abbrev pub TellsCode : Option Text → List Setting → FlightCourse → (text more : List ℕ) → Type 0
-TellsCode from settings course text more =
-    (IsCoded text × TellsRows from settings course (code_in (code_read text)) more)
-    ⊎ ((message : List ℕ) × IsUncoded text message × (more ≡ []))
+abbrev pub TellsCode : InstructionSet → Option Text → List Setting → FlightCourse → (text more : List ℕ) → Type 0
+TellsCode isa from settings course text more =
+    (IsCoded isa text × TellsRows isa from settings course (code_in (code_read isa text)) more)
+    ⊎ ((message : List ℕ) × IsUncoded isa text message × (more ≡ []))
 
 -- so it is with what is taken of the text from this label on
-abbrev pub TellsTaken : (name : Text) → Option Text → List Setting → FlightCourse → (text more : List ℕ) → Type 0
-TellsTaken name from settings course text more =
-    ((taken : List ℕ) × IsTaken name text taken × TellsCode from settings course taken more)
-    ⊎ ((message : List ℕ) × IsUnreached name text message × (more ≡ []))
+abbrev pub TellsTaken : InstructionSet → (name : Text) → Option Text → List Setting → FlightCourse → (text more : List ℕ) → Type 0
+TellsTaken isa name from settings course text more =
+    ((taken : List ℕ) × IsTaken isa name text taken × TellsCode isa from settings course taken more)
+    ⊎ ((message : List ℕ) × IsUnreached isa name text message × (more ≡ []))
 
 -- ---- what is asked
 
@@ -88,19 +89,19 @@ abbrev pub TellsIf : (strict : Bool) → Type 0 → (more : List ℕ) → Type 0
 TellsIf false Told more = more ≡ []
 TellsIf true Told more = Told
 
-abbrev pub TellsStrict : List Setting → Course → (text more : List ℕ) → Type 0
-TellsStrict settings course text more = TellsIf course.strict (TellsProgram settings course text more) more
+abbrev pub TellsStrict : InstructionSet → List Setting → Course → (text more : List ℕ) → Type 0
+TellsStrict isa settings course text more = TellsIf course.strict (TellsProgram isa settings course text more) more
 
 -- What is told of the faults of what is asked of a text. Packets of a serial text leave what it leaves, so they have its faults.
-abbrev pub TellsFaults : Ask → (text more : List ℕ) → Type 0
-TellsFaults (SerialReport course settings apart) text more = TellsStrict settings course text more
-TellsFaults (PacketReport packing course settings) text more = TellsStrict settings course text more
-TellsFaults (StandingReport form course settings) text more = TellsIf course.strict (TellsStanding form settings course text more) more
-TellsFaults (FlightReport course from settings) text more = TellsIf course.strict (TellsCode from settings course text more) more
-TellsFaults (Reaching name (FlightReport course from settings)) text more =
-    TellsIf course.strict (TellsTaken name from settings course text more) more
-TellsFaults (Document ask) text more = TellsFaults ask text more
-TellsFaults ask text more = more ≡ []
+abbrev pub TellsFaults : InstructionSet → Ask → (text more : List ℕ) → Type 0
+TellsFaults isa (SerialReport course settings apart) text more = TellsStrict isa settings course text more
+TellsFaults isa (PacketReport packing course settings) text more = TellsStrict isa settings course text more
+TellsFaults isa (StandingReport form course settings) text more = TellsIf course.strict (TellsStanding isa form settings course text more) more
+TellsFaults isa (FlightReport course from settings) text more = TellsIf course.strict (TellsCode isa from settings course text more) more
+TellsFaults isa (Reaching name (FlightReport course from settings)) text more =
+    TellsIf course.strict (TellsTaken isa name from settings course text more) more
+TellsFaults isa (Document ask) text more = TellsFaults isa ask text more
+TellsFaults isa ask text more = more ≡ []
 
 -- ---- the law
 
@@ -112,17 +113,17 @@ pub record TellsReported (base : ℕ) (more : List ℕ) (final : Machine) : Type
   pub lines : (line : ℕ) → IsTrue (has_line line faults) ↔ Contains final.faults line
 
 -- so it is behind the report of a strict serial run
-abbrev pub TellsItsReport : List Setting → Course → Outcome → (text answer more : List ℕ) → Type 0
-TellsItsReport settings course outcome text answer more =
-    course.strict ≡ true → TellsStrict settings course text more
-    → (report : IsSerialReport settings course outcome text answer)
+abbrev pub TellsItsReport : InstructionSet → List Setting → Course → Outcome → (text answer more : List ℕ) → Type 0
+TellsItsReport isa settings course outcome text answer more =
+    course.strict ≡ true → TellsStrict isa settings course text more
+    → (report : IsSerialReport isa settings course outcome text answer)
     → TellsReported report.reported.opening.base more report.reported.final
 
 -- and of a strict run of packets of serial text
-abbrev pub TellsPackedReport : Packing → List Setting → Course → Outcome → (text answer more : List ℕ) → Type 0
-TellsPackedReport packing settings course outcome text answer more =
-    course.strict ≡ true → TellsStrict settings course text more
-    → (report : IsRunReport packing settings course outcome text answer)
+abbrev pub TellsPackedReport : InstructionSet → Packing → List Setting → Course → Outcome → (text answer more : List ℕ) → Type 0
+TellsPackedReport isa packing settings course outcome text answer more =
+    course.strict ≡ true → TellsStrict isa settings course text more
+    → (report : IsRunReport isa packing settings course outcome text answer)
     → TellsReported report.reported.reported.opening.base more report.reported.reported.final
 
 -- so it is with what is told of packets as they stand, and their report

@@ -9,38 +9,39 @@ use Rattle.c62_json_lint.specs.Linted.{IsListingDocument, IsPacketsDocument, IsS
 use Rattle.c62_teach.specs.declared.words.Kind.{Kind}
 use Rattle.c62_teach.specs.declared.words.Kind.TheVariants.{Serial, Listing, Packets}
 use Rattle.c62_teach.specs.declared.words.Linting.{Linting}
+use Rattle.c62_op.specs.declared.set.InstructionSet.{InstructionSet}
 
 -- the first of these lines tells the fault that a text is refused for
-pub record BeginsWith (name text : List ℕ) (refusal : Refusal) (lines : List ℕ) : Type 0 where
+pub record BeginsWith (isa : InstructionSet) (name text : List ℕ) (refusal : Refusal) (lines : List ℕ) : Type 0 where
   pub fault : ReadFault
   pub same : refusal_of fault ≡ refusal
   pub first : List ℕ
   pub others : List ℕ
   pub whole : lines ≡ first ++ others
-  pub told : LintsOne name text fault first
+  pub told : LintsOne isa name text fault first
 
 -- a line for each of a serial text's first faults
-pub record IsLintedSerial (most : ℕ) (name text lines : List ℕ) (faulty : Bool) : Type 0 where
-  pub all : LintsText name text most lines
+pub record IsLintedSerial (isa : InstructionSet) (most : ℕ) (name text lines : List ℕ) (faulty : Bool) : Type 0 where
+  pub all : LintsText isa name text most lines
   -- there is one exactly where the commands refuse the text, and the first line tells what they refuse it for
-  pub refused : faulty ≡ is_err (program_in text)
-  pub first : IfErr (program_in text) (λ refusal. BeginsWith name text refusal lines)
+  pub refused : faulty ≡ is_err (program_in isa text)
+  pub first : IfErr (program_in isa text) (λ refusal. BeginsWith isa name text refusal lines)
 
 -- what is found in a text of this kind
-abbrev pub IsLintedAs : Kind → (most : ℕ) → (name text lines : List ℕ) → (faulty : Bool) → Type 0
-IsLintedAs Serial most name text lines faulty = IsLintedSerial most name text lines faulty
-IsLintedAs Listing most name text lines faulty = IsLintedListing name text lines faulty
-IsLintedAs Packets most name text lines faulty = IsLintedPackets most name text lines faulty
+abbrev pub IsLintedAs : InstructionSet → Kind → (most : ℕ) → (name text lines : List ℕ) → (faulty : Bool) → Type 0
+IsLintedAs isa Serial most name text lines faulty = IsLintedSerial isa most name text lines faulty
+IsLintedAs isa Listing most name text lines faulty = IsLintedListing isa name text lines faulty
+IsLintedAs isa Packets most name text lines faulty = IsLintedPackets isa most name text lines faulty
 
 -- its document
-abbrev pub IsDocumentAs : Kind → (most : ℕ) → (name text lines : List ℕ) → (faulty : Bool) → Type 0
-IsDocumentAs Serial most name text document faulty = IsSerialDocument most name text document faulty
-IsDocumentAs Listing most name text document faulty = IsListingDocument name text document faulty
-IsDocumentAs Packets most name text document faulty = IsPacketsDocument most name text document faulty
+abbrev pub IsDocumentAs : InstructionSet → Kind → (most : ℕ) → (name text lines : List ℕ) → (faulty : Bool) → Type 0
+IsDocumentAs isa Serial most name text document faulty = IsSerialDocument isa most name text document faulty
+IsDocumentAs isa Listing most name text document faulty = IsListingDocument isa name text document faulty
+IsDocumentAs isa Packets most name text document faulty = IsPacketsDocument isa most name text document faulty
 
-abbrev pub IsLintedSo : (json : Bool) → Kind → (most : ℕ) → (name text told : List ℕ) → (faulty : Bool) → Type 0
-IsLintedSo false kind most name text told faulty = IsLintedAs kind most name text told faulty
-IsLintedSo true kind most name text told faulty = IsDocumentAs kind most name text told faulty
+abbrev pub IsLintedSo : InstructionSet → (json : Bool) → Kind → (most : ℕ) → (name text told : List ℕ) → (faulty : Bool) → Type 0
+IsLintedSo isa false kind most name text told faulty = IsLintedAs isa kind most name text told faulty
+IsLintedSo isa true kind most name text told faulty = IsDocumentAs isa kind most name text told faulty
 
-abbrev pub IsLinted : Linting → (name text told : List ℕ) → (faulty : Bool) → Type 0
-IsLinted linting name text told faulty = IsLintedSo linting.json linting.kind linting.most name text told faulty
+abbrev pub IsLinted : InstructionSet → Linting → (name text told : List ℕ) → (faulty : Bool) → Type 0
+IsLinted isa linting name text told faulty = IsLintedSo isa linting.json linting.kind linting.most name text told faulty

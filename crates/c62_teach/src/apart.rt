@@ -8,7 +8,7 @@ use c62_answer::opening;
 use c62_apart::{meetings_of, push_loops};
 use c62_command::{Request, Start};
 use c62_line::Cause;
-use c62_op::Reg;
+use c62_op::{InstructionSet, Reg};
 use c62_read::{Program, read_program};
 use std::alloc::{AllocError, Global};
 
@@ -51,14 +51,15 @@ fn watched_run(
 /// What is told of the run of a text.
 #[tactic(auto, using(crate::proofs::Meets::program_some, crate::proofs::Meets::program_none))]
 fn watched_text(
+    isa: InstructionSet,
     alloc: Global,
     start: &Start,
     apart: &[Reg],
     text: &[u8],
 ) -> Result<Watched, AllocError>
-    ensures { IfOk result (λ told. WatchesText start.now.settings.items start.now.course apart.now text.now told.lines.items told.meets) }
+    ensures { IfOk result (λ told. WatchesText isa start.now.settings.items start.now.course apart.now text.now told.lines.items told.meets) }
 {
-    let fault = match read_program(alloc, text) {
+    let fault = match read_program(isa, alloc, text) {
         Ok(program) => return watched_run(alloc, &program, start, apart),
         Err(fault) => fault,
     };
@@ -74,12 +75,17 @@ fn watched_text(
 /// # Errors
 ///
 /// `AllocError` where memory ran out.
-pub fn apart_told(alloc: Global, request: &Request, text: &[u8]) -> Result<Watched, AllocError>
-    ensures { IfOk result (λ told. TellsApart (ask_of request.now) text.now told.lines.items told.meets) }
+pub fn apart_told(
+    isa: InstructionSet,
+    alloc: Global,
+    request: &Request,
+    text: &[u8],
+) -> Result<Watched, AllocError>
+    ensures { IfOk result (λ told. TellsApart isa (ask_of request.now) text.now told.lines.items told.meets) }
 {
     match request {
         Request::Serial(start, apart) if !apart.is_empty() => {
-            watched_text(alloc, start, apart, text)
+            watched_text(isa, alloc, start, apart, text)
         }
         _ => Ok(untold(alloc)),
     }

@@ -17,6 +17,7 @@ use c62_faulted::{faults_of, push_faults};
 use c62_faulted_packets::{faults_of_flight, faults_of_packets};
 use c62_line::Cause;
 use c62_listing_reader::{ListFault, read_listing};
+use c62_op::InstructionSet;
 use c62_packet::Packets;
 use c62_reach::{ReachFault, reached_text};
 use c62_read::{Program, read_program};
@@ -37,10 +38,15 @@ fn run_told(alloc: Global, program: &Program, start: &Start) -> Result<Vec<u8>, 
 
 /// Those of the run of a text.
 #[tactic(auto, using(crate::proofs::Strict::program_some, crate::proofs::Strict::program_none))]
-fn program_told(alloc: Global, start: &Start, text: &[u8]) -> Result<Vec<u8>, AllocError>
-    ensures { IfOk result (λ more. TellsProgram start.now.settings.items start.now.course text.now more.items) }
+fn program_told(
+    isa: InstructionSet,
+    alloc: Global,
+    start: &Start,
+    text: &[u8],
+) -> Result<Vec<u8>, AllocError>
+    ensures { IfOk result (λ more. TellsProgram isa start.now.settings.items start.now.course text.now more.items) }
 {
-    let fault = match read_program(alloc, text) {
+    let fault = match read_program(isa, alloc, text) {
         Ok(program) => return run_told(alloc, &program, start),
         Err(fault) => fault,
     };
@@ -51,11 +57,16 @@ fn program_told(alloc: Global, start: &Start, text: &[u8]) -> Result<Vec<u8>, Al
 }
 
 /// Where it is strict.
-fn strict_told(alloc: Global, start: &Start, text: &[u8]) -> Result<Vec<u8>, AllocError>
-    ensures { IfOk result (λ more. TellsStrict start.now.settings.items start.now.course text.now more.items) }
+fn strict_told(
+    isa: InstructionSet,
+    alloc: Global,
+    start: &Start,
+    text: &[u8],
+) -> Result<Vec<u8>, AllocError>
+    ensures { IfOk result (λ more. TellsStrict isa start.now.settings.items start.now.course text.now more.items) }
 {
     if start.course.strict {
-        program_told(alloc, start, text)
+        program_told(isa, alloc, start, text)
     } else {
         Ok(Vec::new(alloc))
     }
@@ -76,10 +87,15 @@ fn packets_told(alloc: Global, packets: &Packets, start: &Start) -> Result<Vec<u
 
 /// Those of the run of a listing.
 #[tactic(auto, using(crate::proofs::Strict::listing_some, crate::proofs::Strict::listing_none))]
-fn listing_told(alloc: Global, start: &Start, text: &[u8]) -> Result<Vec<u8>, AllocError>
-    ensures { IfOk result (λ more. TellsStanding Listed start.now.settings.items start.now.course text.now more.items) }
+fn listing_told(
+    isa: InstructionSet,
+    alloc: Global,
+    start: &Start,
+    text: &[u8],
+) -> Result<Vec<u8>, AllocError>
+    ensures { IfOk result (λ more. TellsStanding isa Listed start.now.settings.items start.now.course text.now more.items) }
 {
-    let fault = match read_listing(alloc, text) {
+    let fault = match read_listing(isa, alloc, text) {
         Ok(packets) => return packets_told(alloc, &packets, start),
         Err(fault) => fault,
     };
@@ -91,12 +107,17 @@ fn listing_told(alloc: Global, start: &Start, text: &[u8]) -> Result<Vec<u8>, Al
 
 /// Those of the run of packets as people and compilers write them.
 #[tactic(auto, using(crate::proofs::Strict::written_some, crate::proofs::Strict::written_none))]
-fn written_told(alloc: Global, start: &Start, text: &[u8]) -> Result<Vec<u8>, AllocError>
-    ensures { IfOk result (λ more. TellsStanding Written start.now.settings.items start.now.course text.now more.items) }
+fn written_told(
+    isa: InstructionSet,
+    alloc: Global,
+    start: &Start,
+    text: &[u8],
+) -> Result<Vec<u8>, AllocError>
+    ensures { IfOk result (λ more. TellsStanding isa Written start.now.settings.items start.now.course text.now more.items) }
 {
     // It tells that no cycle is added where the text isn't drained.
     texts_that_stand_lack_nothing();
-    let fault = match adopt(alloc, text, false) {
+    let fault = match adopt(isa, alloc, text, false) {
         Ok(adopted) => return packets_told(alloc, &adopted.packets, start),
         Err(fault) => fault,
     };
@@ -108,16 +129,17 @@ fn written_told(alloc: Global, start: &Start, text: &[u8]) -> Result<Vec<u8>, Al
 
 /// Those of the run of packets of this form.
 fn standing_told(
+    isa: InstructionSet,
     alloc: Global,
     form: Form,
     start: &Start,
     text: &[u8],
 ) -> Result<Vec<u8>, AllocError>
-    ensures { IfOk result (λ more. TellsStanding form start.now.settings.items start.now.course text.now more.items) }
+    ensures { IfOk result (λ more. TellsStanding isa form start.now.settings.items start.now.course text.now more.items) }
 {
     match form {
-        Form::Listed => listing_told(alloc, start, text),
-        Form::Written => written_told(alloc, start, text),
+        Form::Listed => listing_told(isa, alloc, start, text),
+        Form::Written => written_told(isa, alloc, start, text),
     }
 }
 
@@ -138,14 +160,15 @@ fn flight_told(alloc: Global, begun: &Begun, start: &FlightStart) -> Result<Vec<
 /// Those of the run of code, from the row of this label on or the first.
 #[tactic(auto, using(crate::proofs::Strict::issuable, crate::proofs::Strict::rows_some, crate::proofs::Strict::rows_none))]
 fn rows_told(
+    isa: InstructionSet,
     alloc: Global,
     from: Option<&[u8]>,
     start: &FlightStart,
     code: &[u8],
 ) -> Result<Vec<u8>, AllocError>
-    ensures { IfOk result (λ more. TellsRows (option_copied from.entry) start.now.settings.items start.now.course code.now more.items) }
+    ensures { IfOk result (λ more. TellsRows isa (option_copied from.entry) start.now.settings.items start.now.course code.now more.items) }
 {
-    let fault = match read_from(alloc, code, from) {
+    let fault = match read_from(isa, alloc, code, from) {
         Ok(begun) => return flight_told(alloc, &begun, start),
         Err(fault) => fault,
     };
@@ -158,15 +181,16 @@ fn rows_told(
 /// Those of the run of a text's code, so.
 #[tactic(auto, using(crate::proofs::Strict::code_some, crate::proofs::Strict::code_none))]
 fn code_told(
+    isa: InstructionSet,
     alloc: Global,
     from: Option<&[u8]>,
     start: &FlightStart,
     text: &[u8],
 ) -> Result<Vec<u8>, AllocError>
-    ensures { IfOk result (λ more. TellsCode (option_copied from.entry) start.now.settings.items start.now.course text.now more.items) }
+    ensures { IfOk result (λ more. TellsCode isa (option_copied from.entry) start.now.settings.items start.now.course text.now more.items) }
 {
-    let fault = match read_code(alloc, text) {
-        Ok(code) => return rows_told(alloc, from, start, &code),
+    let fault = match read_code(isa, alloc, text) {
+        Ok(code) => return rows_told(isa, alloc, from, start, &code),
         Err(fault) => fault,
     };
     if let AdoptFault::Memory = fault {
@@ -178,41 +202,53 @@ fn code_told(
 /// Those of the run of what is taken of a text from this label on.
 #[tactic(auto, using(crate::proofs::Strict::taken_some, crate::proofs::Strict::taken_none))]
 fn taken_told(
+    isa: InstructionSet,
     alloc: Global,
     name: &[u8],
     start: &FlightStart,
     text: &[u8],
 ) -> Result<Vec<u8>, AllocError>
-    ensures { IfOk result (λ more. TellsTaken name.now (Some name.now) start.now.settings.items start.now.course text.now more.items) }
+    ensures { IfOk result (λ more. TellsTaken isa name.now (Some name.now) start.now.settings.items start.now.course text.now more.items) }
 {
-    match reached_text(alloc, text, name) {
-        Ok(taken) => code_told(alloc, Some(name), start, &taken),
+    match reached_text(isa, alloc, text, name) {
+        Ok(taken) => code_told(isa, alloc, Some(name), start, &taken),
         Err(ReachFault::Memory) => Err(AllocError),
         Err(ReachFault::From) => Ok(Vec::new(alloc)),
     }
 }
 
 /// Those of the run of a text of packets in flight, as it is asked for.
-fn flying_told(alloc: Global, start: &FlightStart, text: &[u8]) -> Result<Vec<u8>, AllocError>
-    ensures { IfOk result (λ more. TellsFaults (flight_asked start.now.alone start.now.course (option_map (λ name. name.items) start.now.from) start.now.settings.items)
+fn flying_told(
+    isa: InstructionSet,
+    alloc: Global,
+    start: &FlightStart,
+    text: &[u8],
+) -> Result<Vec<u8>, AllocError>
+    ensures { IfOk result (λ more. TellsFaults isa (flight_asked start.now.alone start.now.course (option_map (λ name. name.items) start.now.from) start.now.settings.items)
         text.now more.items) }
 {
     if !start.course.strict {
         return Ok(Vec::new(alloc));
     }
     match &start.from {
-        Some(name) if start.alone => taken_told(alloc, name, start, text),
-        Some(name) => code_told(alloc, Some(name), start, text),
-        None => code_told(alloc, None, start, text),
+        Some(name) if start.alone => taken_told(isa, alloc, name, start, text),
+        Some(name) => code_told(isa, alloc, Some(name), start, text),
+        None => code_told(isa, alloc, None, start, text),
     }
 }
 
 /// Those of the run of packets of this form, where it is strict.
-fn sim_told(alloc: Global, form: Form, start: &Start, text: &[u8]) -> Result<Vec<u8>, AllocError>
-    ensures { IfOk result (λ more. TellsIf start.now.course.strict (TellsStanding form start.now.settings.items start.now.course text.now more.items) more.items) }
+fn sim_told(
+    isa: InstructionSet,
+    alloc: Global,
+    form: Form,
+    start: &Start,
+    text: &[u8],
+) -> Result<Vec<u8>, AllocError>
+    ensures { IfOk result (λ more. TellsIf start.now.course.strict (TellsStanding isa form start.now.settings.items start.now.course text.now more.items) more.items) }
 {
     if start.course.strict {
-        standing_told(alloc, form, start, text)
+        standing_told(isa, alloc, form, start, text)
     } else {
         Ok(Vec::new(alloc))
     }
@@ -224,13 +260,18 @@ fn sim_told(alloc: Global, form: Form, start: &Start, text: &[u8]) -> Result<Vec
 /// # Errors
 ///
 /// `AllocError` where memory ran out.
-pub fn faults_told(alloc: Global, request: &Request, text: &[u8]) -> Result<Vec<u8>, AllocError>
-    ensures { IfOk result (λ more. TellsFaults (ask_of request.now) text.now more.items) }
+pub fn faults_told(
+    isa: InstructionSet,
+    alloc: Global,
+    request: &Request,
+    text: &[u8],
+) -> Result<Vec<u8>, AllocError>
+    ensures { IfOk result (λ more. TellsFaults isa (ask_of request.now) text.now more.items) }
 {
     match request {
-        Request::Run(_, start) | Request::Serial(start, _) => strict_told(alloc, start, text),
-        Request::Sim(form, start) => sim_told(alloc, *form, start, text),
-        Request::Exec(start) => flying_told(alloc, start, text),
+        Request::Run(_, start) | Request::Serial(start, _) => strict_told(isa, alloc, start, text),
+        Request::Sim(form, start) => sim_told(isa, alloc, *form, start, text),
+        Request::Exec(start) => flying_told(isa, alloc, start, text),
         _ => Ok(Vec::new(alloc)),
     }
 }

@@ -1,5 +1,6 @@
 //! Laws of what is told. The functions do nothing: what each ensures is a law, proved of the definitions that all other contracts cite.
 
+ghost use Rattle.c62_op.specs.declared.set.InstructionSet.{InstructionSet};
 ghost use Rattle.std.specs.Prelude.{ℕ, List};
 ghost use Rattle.c62_read.specs.Program.{Name};
 ghost use Rattle.c62_packet.specs.Packed.{Packed};
@@ -13,10 +14,10 @@ ghost use Rattle.c62_teach.specs.Faulted.{TellsFlightReport, TellsItsReport, Tel
 
 /// The accesses that are told behind the report of a strict run are of the lines that the report names.
 pub fn tells_what_is_reported()
-    ensures serial { (settings : List Setting) (course : Course) (outcome : Outcome) (text answer more : List ℕ)
-        → TellsItsReport settings course outcome text answer more }
-    ensures packed { (packing : Packing) (settings : List Setting) (course : Course) (outcome : Outcome) (text answer more : List ℕ)
-        → TellsPackedReport packing settings course outcome text answer more }
+    ensures serial { (isa : InstructionSet) (settings : List Setting) (course : Course) (outcome : Outcome) (text answer more : List ℕ)
+        → TellsItsReport isa settings course outcome text answer more }
+    ensures packed { (isa : InstructionSet) (packing : Packing) (settings : List Setting) (course : Course) (outcome : Outcome) (text answer more : List ℕ)
+        → TellsPackedReport isa packing settings course outcome text answer more }
     ensures packets { (packets : List Packed) (settings : List Setting) (course : Course) (outcome : Outcome) (answer more : List ℕ)
         → TellsPacketReport packets settings course outcome answer more }
     ensures flight { (flying : Text) (labels : List (Name × ℕ)) (first : ℕ) (settings : List Setting) (course : FlightCourse) (outcome : Outcome)

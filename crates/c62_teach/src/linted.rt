@@ -7,15 +7,22 @@ use crate::words::{Kind, Linting};
 use c62_explain::lint;
 use c62_explain_packets::{Linted, lint_listing, lint_packets};
 use c62_json_lint::{listing_document, packets_document, serial_document};
+use c62_op::InstructionSet;
 use std::alloc::{AllocError, Global};
 
 /// The faults of a serial text that has this name.
 #[tactic(auto, using(crate::proofs::Refusals::linted_by))]
-fn lint_serial(alloc: Global, name: &[u8], text: &[u8], most: usize) -> Result<Linted, AllocError>
+fn lint_serial(
+    isa: InstructionSet,
+    alloc: Global,
+    name: &[u8],
+    text: &[u8],
+    most: usize,
+) -> Result<Linted, AllocError>
     requires { 1 ≤ most }
-    ensures { IfOk result (λ linted. IsLintedSerial most name.now text.now linted.lines.items linted.faulty) }
+    ensures { IfOk result (λ linted. IsLintedSerial isa most name.now text.now linted.lines.items linted.faulty) }
 {
-    let lines = lint(alloc, name, text, most)?;
+    let lines = lint(isa, alloc, name, text, most)?;
     Ok(Linted {
         faulty: !lines.is_empty(),
         lines,
@@ -23,31 +30,38 @@ fn lint_serial(alloc: Global, name: &[u8], text: &[u8], most: usize) -> Result<L
 }
 
 /// The faults of a text that has this name, one a line.
-fn lines_of(alloc: Global, linting: Linting, name: &[u8], text: &[u8]) -> Result<Linted, AllocError>
-    requires { 1 ≤ linting.most }
-    ensures { IfOk result (λ linted. IsLintedAs linting.kind linting.most name.now text.now linted.lines.items linted.faulty) }
-{
-    match linting.kind {
-        Kind::Serial => lint_serial(alloc, name, text, linting.most),
-        Kind::Listing => lint_listing(alloc, name, text),
-        Kind::Packets => lint_packets(alloc, name, text, linting.most),
-    }
-}
-
-/// The document of the faults of a text that has this name.
-fn document_of(
+fn lines_of(
+    isa: InstructionSet,
     alloc: Global,
     linting: Linting,
     name: &[u8],
     text: &[u8],
 ) -> Result<Linted, AllocError>
     requires { 1 ≤ linting.most }
-    ensures { IfOk result (λ linted. IsDocumentAs linting.kind linting.most name.now text.now linted.lines.items linted.faulty) }
+    ensures { IfOk result (λ linted. IsLintedAs isa linting.kind linting.most name.now text.now linted.lines.items linted.faulty) }
+{
+    match linting.kind {
+        Kind::Serial => lint_serial(isa, alloc, name, text, linting.most),
+        Kind::Listing => lint_listing(isa, alloc, name, text),
+        Kind::Packets => lint_packets(isa, alloc, name, text, linting.most),
+    }
+}
+
+/// The document of the faults of a text that has this name.
+fn document_of(
+    isa: InstructionSet,
+    alloc: Global,
+    linting: Linting,
+    name: &[u8],
+    text: &[u8],
+) -> Result<Linted, AllocError>
+    requires { 1 ≤ linting.most }
+    ensures { IfOk result (λ linted. IsDocumentAs isa linting.kind linting.most name.now text.now linted.lines.items linted.faulty) }
 {
     let told = match linting.kind {
-        Kind::Serial => serial_document(alloc, name, text, linting.most),
-        Kind::Listing => listing_document(alloc, name, text),
-        Kind::Packets => packets_document(alloc, name, text, linting.most),
+        Kind::Serial => serial_document(isa, alloc, name, text, linting.most),
+        Kind::Listing => listing_document(isa, alloc, name, text),
+        Kind::Packets => packets_document(isa, alloc, name, text, linting.most),
     }?;
     Ok(Linted {
         lines: told.text,
@@ -61,17 +75,18 @@ fn document_of(
 ///
 /// `AllocError` where memory ran out.
 pub fn lint_text(
+    isa: InstructionSet,
     alloc: Global,
     linting: Linting,
     name: &[u8],
     text: &[u8],
 ) -> Result<Linted, AllocError>
     requires { 1 ≤ linting.most }
-    ensures { IfOk result (λ linted. IsLinted linting name.now text.now linted.lines.items linted.faulty) }
+    ensures { IfOk result (λ linted. IsLinted isa linting name.now text.now linted.lines.items linted.faulty) }
 {
     if linting.json {
-        document_of(alloc, linting, name, text)
+        document_of(isa, alloc, linting, name, text)
     } else {
-        lines_of(alloc, linting, name, text)
+        lines_of(isa, alloc, linting, name, text)
     }
 }

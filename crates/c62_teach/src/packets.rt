@@ -9,6 +9,7 @@ use c62_explain::explain as explain_serial;
 use c62_explain_packets::{Finding, explain, of_adopt, of_listing, of_rows};
 use c62_line::Cause;
 use c62_listing_reader::{ListFault, read_listing};
+use c62_op::InstructionSet;
 use c62_reach::{ReachFault, reached_text};
 use c62_read::read_program;
 use c62_rows::{RowsFault, read_from};
@@ -16,6 +17,7 @@ use std::alloc::{AllocError, Global};
 
 /// What explains a fault of packets, and which command wants the text.
 fn found_taught(
+    isa: InstructionSet,
     alloc: Global,
     name: &[u8],
     text: &[u8],
@@ -24,137 +26,155 @@ fn found_taught(
     let Some(finding) = found else {
         return Ok(Vec::new(alloc));
     };
-    let mut more = explain(alloc, name, text, finding)?;
+    let mut more = explain(isa, alloc, name, text, finding)?;
     if finding.line != 0 {
-        push_packets_hint(&mut more, alloc, text, finding.line)?;
+        push_packets_hint(isa, &mut more, alloc, text, finding.line)?;
     }
     Ok(more)
 }
 
 /// What explains the fault of a listing.
-fn sim_taught(alloc: Global, name: &[u8], text: &[u8]) -> Result<Vec<u8>, AllocError> {
-    match read_listing(alloc, text) {
+fn sim_taught(
+    isa: InstructionSet,
+    alloc: Global,
+    name: &[u8],
+    text: &[u8],
+) -> Result<Vec<u8>, AllocError> {
+    match read_listing(isa, alloc, text) {
         Ok(_) => Ok(Vec::new(alloc)),
         Err(ListFault::Memory) => Err(AllocError),
-        Err(fault) => found_taught(alloc, name, text, of_listing(alloc, text, fault)?),
+        Err(fault) => found_taught(isa, alloc, name, text, of_listing(isa, alloc, text, fault)?),
     }
 }
 
 /// What explains the fault of a text of packets, drained or as it stands.
 fn adopt_taught(
+    isa: InstructionSet,
     alloc: Global,
     name: &[u8],
     text: &[u8],
     drain: bool,
 ) -> Result<Vec<u8>, AllocError> {
-    match adopt(alloc, text, drain) {
+    match adopt(isa, alloc, text, drain) {
         Ok(_) => Ok(Vec::new(alloc)),
         Err(AdoptFault::Memory) => Err(AllocError),
-        Err(fault) => found_taught(alloc, name, text, of_adopt(fault)),
+        Err(fault) => found_taught(isa, alloc, name, text, of_adopt(fault)),
     }
 }
 
 /// What explains the fault of what is taken of a text of packets from this label on.
 fn adopt_taught_from(
+    isa: InstructionSet,
     alloc: Global,
     name: &[u8],
     text: &[u8],
     from: &[u8],
     drain: bool,
 ) -> Result<Vec<u8>, AllocError> {
-    match reached_text(alloc, text, from) {
-        Ok(taken) => adopt_taught(alloc, name, &taken, drain),
+    match reached_text(isa, alloc, text, from) {
+        Ok(taken) => adopt_taught(isa, alloc, name, &taken, drain),
         Err(ReachFault::Memory) => Err(AllocError),
-        Err(ReachFault::From) => found_taught(alloc, name, text, of_rows(RowsFault::From)),
+        Err(ReachFault::From) => found_taught(isa, alloc, name, text, of_rows(RowsFault::From)),
     }
 }
 
 /// What explains the fault of a text of packets that is to be adopted so.
 pub(crate) fn adopting_taught(
+    isa: InstructionSet,
     alloc: Global,
     name: &[u8],
     text: &[u8],
     adopting: &Adopting,
 ) -> Result<Vec<u8>, AllocError> {
     match &adopting.from {
-        Some(from) => adopt_taught_from(alloc, name, text, from, adopting.drain),
-        None => adopt_taught(alloc, name, text, adopting.drain),
+        Some(from) => adopt_taught_from(isa, alloc, name, text, from, adopting.drain),
+        None => adopt_taught(isa, alloc, name, text, adopting.drain),
     }
 }
 
 /// What explains the fault of what is taken of a text of packets from this label on, and is to run in flight from there.
 fn exec_taught_alone(
+    isa: InstructionSet,
     alloc: Global,
     name: &[u8],
     text: &[u8],
     from: &[u8],
 ) -> Result<Vec<u8>, AllocError> {
-    match reached_text(alloc, text, from) {
-        Ok(taken) => exec_taught(alloc, name, &taken, Some(from)),
+    match reached_text(isa, alloc, text, from) {
+        Ok(taken) => exec_taught(isa, alloc, name, &taken, Some(from)),
         Err(ReachFault::Memory) => Err(AllocError),
-        Err(ReachFault::From) => found_taught(alloc, name, text, of_rows(RowsFault::From)),
+        Err(ReachFault::From) => found_taught(isa, alloc, name, text, of_rows(RowsFault::From)),
     }
 }
 
 /// What explains the fault of a text of packets that is to run in flight so.
 pub(crate) fn flight_taught(
+    isa: InstructionSet,
     alloc: Global,
     name: &[u8],
     text: &[u8],
     start: &FlightStart,
 ) -> Result<Vec<u8>, AllocError> {
     match &start.from {
-        Some(from) if start.alone => exec_taught_alone(alloc, name, text, from),
-        Some(from) => exec_taught(alloc, name, text, Some(from)),
-        None => exec_taught(alloc, name, text, None),
+        Some(from) if start.alone => exec_taught_alone(isa, alloc, name, text, from),
+        Some(from) => exec_taught(isa, alloc, name, text, Some(from)),
+        None => exec_taught(isa, alloc, name, text, None),
     }
 }
 
 /// What explains the fault of a text of packets that is to run in flight, from this label on.
 fn exec_taught(
+    isa: InstructionSet,
     alloc: Global,
     name: &[u8],
     text: &[u8],
     from: Option<&[u8]>,
 ) -> Result<Vec<u8>, AllocError> {
-    let code = match read_code(alloc, text) {
+    let code = match read_code(isa, alloc, text) {
         Ok(code) => code,
         Err(AdoptFault::Memory) => return Err(AllocError),
-        Err(fault) => return found_taught(alloc, name, text, of_adopt(fault)),
+        Err(fault) => return found_taught(isa, alloc, name, text, of_adopt(fault)),
     };
-    match read_from(alloc, &code, from) {
+    match read_from(isa, alloc, &code, from) {
         Ok(_) => Ok(Vec::new(alloc)),
         Err(RowsFault::Memory) => Err(AllocError),
-        Err(fault) => found_taught(alloc, name, text, of_rows(fault)),
+        Err(fault) => found_taught(isa, alloc, name, text, of_rows(fault)),
     }
 }
 
 /// What explains the fault of packets of this form.
 pub(crate) fn form_taught(
+    isa: InstructionSet,
     alloc: Global,
     form: Form,
     name: &[u8],
     text: &[u8],
 ) -> Result<Vec<u8>, AllocError> {
     match form {
-        Form::Listed => sim_taught(alloc, name, text),
-        Form::Written => adopt_taught(alloc, name, text, false),
+        Form::Listed => sim_taught(isa, alloc, name, text),
+        Form::Written => adopt_taught(isa, alloc, name, text, false),
     }
 }
 
 /// What explains the fault of the serial text of a check; nothing where it has none.
-fn text_taught(alloc: Global, name: &[u8], text: &[u8]) -> Result<Option<Vec<u8>>, AllocError> {
-    match read_program(alloc, text) {
+fn text_taught(
+    isa: InstructionSet,
+    alloc: Global,
+    name: &[u8],
+    text: &[u8],
+) -> Result<Option<Vec<u8>>, AllocError> {
+    match read_program(isa, alloc, text) {
         Ok(_) => Ok(None),
         Err(fault) => match fault.cause {
             Cause::Memory => Err(AllocError),
-            _ => Ok(Some(explain_serial(alloc, name, text, fault)?)),
+            _ => Ok(Some(explain_serial(isa, alloc, name, text, fault)?)),
         },
     }
 }
 
 /// What explains the fault of what is to be checked: of its text, or else of its packets of this form.
 pub(crate) fn check_taught(
+    isa: InstructionSet,
     alloc: Global,
     form: Form,
     names: Names<'_>,
@@ -163,14 +183,15 @@ pub(crate) fn check_taught(
     let Some(parts) = parts_of(input) else {
         return Ok(Vec::new(alloc));
     };
-    match text_taught(alloc, names.text.as_bytes(), parts.text)? {
+    match text_taught(isa, alloc, names.text.as_bytes(), parts.text)? {
         Some(more) => Ok(more),
-        None => form_taught(alloc, form, names.listing.as_bytes(), parts.listing),
+        None => form_taught(isa, alloc, form, names.listing.as_bytes(), parts.listing),
     }
 }
 
 /// The same of what is to be checked against loops, whose packets fly.
 pub(crate) fn loops_taught(
+    isa: InstructionSet,
     alloc: Global,
     names: Names<'_>,
     input: &[u8],
@@ -178,8 +199,8 @@ pub(crate) fn loops_taught(
     let Some(parts) = parts_of(input) else {
         return Ok(Vec::new(alloc));
     };
-    match text_taught(alloc, names.text.as_bytes(), parts.text)? {
+    match text_taught(isa, alloc, names.text.as_bytes(), parts.text)? {
         Some(more) => Ok(more),
-        None => exec_taught(alloc, names.listing.as_bytes(), parts.listing, None),
+        None => exec_taught(isa, alloc, names.listing.as_bytes(), parts.listing, None),
     }
 }

@@ -9,6 +9,7 @@ use crate::packets::{adopting_taught, check_taught, flight_taught, form_taught, 
 use c62_command::{Form, Request};
 use c62_explain::explain;
 use c62_line::Cause;
+use c62_op::InstructionSet;
 use c62_read::read_program;
 use std::alloc::{AllocError, Global};
 
@@ -21,21 +22,26 @@ pub struct Names<'a> {
 
 /// What explains the fault of a serial text that has this name; nothing where the text has none.
 #[tactic(auto, using(crate::proofs::Refusals::taught_by, crate::proofs::Refusals::taught_more))]
-fn serial_taught(alloc: Global, name: &[u8], text: &[u8]) -> Result<Vec<u8>, AllocError>
-    ensures { IfOk result (λ more. TeachesSerial name.now text.now more.items) }
+fn serial_taught(
+    isa: InstructionSet,
+    alloc: Global,
+    name: &[u8],
+    text: &[u8],
+) -> Result<Vec<u8>, AllocError>
+    ensures { IfOk result (λ more. TeachesSerial isa name.now text.now more.items) }
 {
-    let fault = match read_program(alloc, text) {
+    let fault = match read_program(isa, alloc, text) {
         Ok(_) => return Ok(Vec::new(alloc)),
         Err(fault) => fault,
     };
     if let Cause::Memory = fault.cause {
         return Err(AllocError);
     }
-    let mut more = explain(alloc, name, text, fault)?;
+    let mut more = explain(isa, alloc, name, text, fault)?;
     if fault.line == 0 {
         return Ok(more);
     }
-    push_serial_hint(&mut more, alloc, text, fault.line)?;
+    push_serial_hint(isa, &mut more, alloc, text, fault.line)?;
     Ok(more)
 }
 
@@ -46,27 +52,28 @@ fn serial_taught(alloc: Global, name: &[u8], text: &[u8]) -> Result<Vec<u8>, All
 ///
 /// `AllocError` where memory ran out.
 pub fn taught(
+    isa: InstructionSet,
     alloc: Global,
     request: &Request,
     names: Names<'_>,
     text: &[u8],
 ) -> Result<Vec<u8>, AllocError>
-    ensures { IfOk result (λ more. Teaches (ask_of request.now) names.entry.text.now names.entry.listing.now text.now more.items) }
+    ensures { IfOk result (λ more. Teaches isa (ask_of request.now) names.entry.text.now names.entry.listing.now text.now more.items) }
 {
     let name = names.text.as_bytes();
     match request {
         Request::Pack(_) | Request::Show(_) | Request::Run(_, _) | Request::Serial(_, _) => {
-            serial_taught(alloc, name, text)
+            serial_taught(isa, alloc, name, text)
         }
         Request::PackLoops(_) | Request::ShowLoops(_, _) | Request::RunLoops(_, _) => {
-            serial_taught(alloc, name, text)
+            serial_taught(isa, alloc, name, text)
         }
-        Request::Sim(form, _) => form_taught(alloc, *form, name, text),
-        Request::ShowListing(_) => form_taught(alloc, Form::Listed, name, text),
-        Request::Exec(start) => flight_taught(alloc, name, text, start),
-        Request::Adopt(adopting) => adopting_taught(alloc, name, text, adopting),
-        Request::ShowPackets(_) => form_taught(alloc, Form::Written, name, text),
-        Request::Check(form) => check_taught(alloc, *form, names, text),
-        Request::CheckLoops(_) => loops_taught(alloc, names, text),
+        Request::Sim(form, _) => form_taught(isa, alloc, *form, name, text),
+        Request::ShowListing(_) => form_taught(isa, alloc, Form::Listed, name, text),
+        Request::Exec(start) => flight_taught(isa, alloc, name, text, start),
+        Request::Adopt(adopting) => adopting_taught(isa, alloc, name, text, adopting),
+        Request::ShowPackets(_) => form_taught(isa, alloc, Form::Written, name, text),
+        Request::Check(form) => check_taught(isa, alloc, *form, names, text),
+        Request::CheckLoops(_) => loops_taught(isa, alloc, names, text),
     }
 }

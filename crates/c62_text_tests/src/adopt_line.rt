@@ -3,12 +3,13 @@
 use crate::expect::equal;
 use c62_adopt_line::{LineFault, Written, read_line};
 use c62_line::read_insn;
+use c62_op::InstructionSet;
 use std::alloc::Global;
 use std::test::Fail;
 
 fn read(alloc: Global, line: &str) -> Result<Written, LineFault> {
     let mut text = Vec::new(alloc);
-    read_line(&mut text, line.as_bytes())
+    read_line(InstructionSet::Core, &mut text, line.as_bytes())
 }
 
 /// The first row whose line says something else than its serial line. Where bars stand before the serial line, they stand
@@ -17,7 +18,7 @@ fn first_wrong(alloc: Global, rows: &[(&'static str, &'static str)]) -> Result<&
     for (line, want) in rows {
         let written = read(alloc, line)?;
         let serial = want.strip_prefix("|| ").unwrap_or(want);
-        let reading = read_insn(serial.as_bytes())?;
+        let reading = read_insn(InstructionSet::Core, serial.as_bytes())?;
         if written.beside != want.starts_with("|| ")
             || written.label != reading.label
             || written.what != reading.what

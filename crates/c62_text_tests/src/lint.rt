@@ -1,6 +1,7 @@
 //! Texts with several faults, and each line's first.
 
 use c62_lint::faults_of;
+use c62_op::InstructionSet;
 use std::alloc::Global;
 use std::process::Abort;
 use std::test::Fail;
@@ -8,7 +9,7 @@ use std::test::Fail;
 /// The lines and names of the first four faults of a text.
 fn told(alloc: Global, text: &str) -> Result<String, Fail> {
     let mut told = String::new(alloc);
-    for fault in faults_of(alloc, text.as_bytes(), 4)?.iter() {
+    for fault in faults_of(InstructionSet::Core, alloc, text.as_bytes(), 4)?.iter() {
         write!(told, "{fault}; ")?;
     }
     Ok(told)

@@ -1,17 +1,18 @@
 //! Faulty lines, each with a line of carets under what is told.
 
 use c62_line::read_insn;
+use c62_op::InstructionSet;
 use c62_place::place_of;
 use std::alloc::Global;
 use std::process::Abort;
 use std::test::Fail;
 
-/// The columns, from 1, of a line's fault, and its name.
-fn told(alloc: Global, line: &str) -> Result<String, Fail> {
-    match read_insn(line.as_bytes()) {
+/// The columns, from 1, of a line's fault in a set, and its name.
+fn told(isa: InstructionSet, alloc: Global, line: &str) -> Result<String, Fail> {
+    match read_insn(isa, line.as_bytes()) {
         Ok(_) => Ok(format!(in alloc; "read")?),
         Err(fault) => {
-            let place = place_of(alloc, fault.cause, line.as_bytes())?;
+            let place = place_of(isa, alloc, fault.cause, line.as_bytes())?;
             let column = place.start + 1;
             let len = place.len;
             let cause = fault.cause;
@@ -66,7 +67,46 @@ const ROWS: [(&str, &str); 40] = [
 #[test]
 fn faults_have_their_places(rt: HostRuntime) -> Result<(), Fail> {
     for (line, want) in ROWS {
-        assert_eq!(&rt; told(rt.alloc(), line)?.as_str(), want, "{line}");
+        let found = told(InstructionSet::Core, rt.alloc(), line)?;
+        assert_eq!(&rt; found.as_str(), want, "{line}");
+    }
+    Ok(())
+}
+
+/// Lines of the full set.
+const ROWS_OF_THE_FULL_SET: [(&str, &str); 25] = [
+    ("CMPGTU 16,A1,A2", "8+2 ConstantRange"),
+    ("CMPGTU 10h,A1,A2", "8+3 ConstantRange"),
+    ("MVK .S1 0FFFFh,A1", "9+6 ConstantRange"),
+    ("EXT A1,8,28h,A2", "10+3 ConstantRange"),
+    ("SET A1,28h,8,A2", "8+3 ConstantRange"),
+    ("CLR A1,0h,40,A2", "11+2 ConstantRange"),
+    ("LDW *+B14[32768],A5", "11+5 ConstantRange"),
+    ("LDW *+DP[8000h],A5", "10+5 ConstantRange"),
+    ("LDW *-B14[32],A5", "11+2 ConstantRange"),
+    ("LDW *A4[32],A5", "9+2 ConstantRange"),
+    ("MPYSU 16,A1,A2", "7+2 ConstantRange"),
+    ("MPYUS 5,A1,A2", "7+1 BadOperand"),
+    ("MVK FFh,A1", "5+3 BadOperand"),
+    ("MVK 1,SQ", "7+2 BadOperand"),
+    ("SADD A1,A2", "11+0 BadOperand"),
+    ("SET A1,8,A2", "10+2 BadOperand"),
+    ("LDW *A4[2,A5", "10+1 BadOperand"),
+    ("LDW *A4(8),A5", "8+1 BadOperand"),
+    ("[!B0] SAT A1,A2", "7+3 UnknownMnemonic"),
+    ("[SP] MVK 1,A1", "2+2 BadOperand"),
+    ("[!FP] MVK 1,A1", "3+2 BadOperand"),
+    ("SADD .S1 A1,A2,A3", "6+3 BadUnit"),
+    ("SADD B1,B2,A0", "1+4 TwoCrossed"),
+    ("SUBC B1,A2,A3", "1+4 BadSide"),
+    ("B .S2X B3", "3+4 BadSide"),
+];
+
+#[test]
+fn faults_have_their_places_in_the_full_set(rt: HostRuntime) -> Result<(), Fail> {
+    for (line, want) in ROWS_OF_THE_FULL_SET {
+        let found = told(InstructionSet::Full, rt.alloc(), line)?;
+        assert_eq!(&rt; found.as_str(), want, "{line}");
     }
     Ok(())
 }

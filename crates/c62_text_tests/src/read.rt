@@ -1,5 +1,6 @@
 //! Worked rows: texts, their answers and the points at which a text could be read in two ways.
 
+mod full;
 mod limits;
 mod order;
 mod targets;
@@ -7,6 +8,7 @@ mod targets;
 use crate::expect::{equal, equal_in};
 use c62_insn::{AddressForm, Insn, Offset, Op, Operands, Reg, Side};
 use c62_line::{Reading, What, read_insn};
+use c62_op::InstructionSet;
 use c62_read::{Block, read_program};
 use std::alloc::Global;
 use std::process::Abort;
@@ -187,16 +189,16 @@ const SAME: [(&str, &str); 25] = [
 ];
 
 /// The fault of a text as it is printed, or `read`.
-fn answer(alloc: Global, text: &str) -> Result<String, Fail> {
-    match read_program(alloc, text.as_bytes()) {
+fn answer(isa: InstructionSet, alloc: Global, text: &str) -> Result<String, Fail> {
+    match read_program(isa, alloc, text.as_bytes()) {
         Ok(_) => Ok(format!(in alloc; "read")?),
         Err(fault) => Ok(format!(in alloc; "{fault}")?),
     }
 }
 
 /// The only instruction of a text.
-fn only(rt: &impl Abort, alloc: Global, text: &str) -> Result<Insn, Fail> {
-    let program = read_program(alloc, text.as_bytes())?;
+fn only(isa: InstructionSet, rt: &impl Abort, alloc: Global, text: &str) -> Result<Insn, Fail> {
+    let program = read_program(isa, alloc, text.as_bytes())?;
     equal_in(rt, &text, &program.blocks().len(), &1);
     let block = &program.blocks()[0];
     equal_in(rt, &text, &block.insns().len(), &1);
@@ -205,7 +207,7 @@ fn only(rt: &impl Abort, alloc: Global, text: &str) -> Result<Insn, Fail> {
 
 /// The text gets its answer.
 fn check_answer(rt: &impl Abort, alloc: Global, text: &str, want: &str) -> Result<(), Fail> {
-    let found = answer(alloc, text)?;
+    let found = answer(InstructionSet::Core, alloc, text)?;
     equal_in(rt, &text, &found.as_str(), &want);
     Ok(())
 }
@@ -246,7 +248,8 @@ fn answers_on_forms(rt: HostRuntime) -> Result<(), Fail> {
 /// The two texts of each row are one instruction.
 fn check_same(rt: &impl Abort, alloc: Global, rows: &[(&str, &str)]) -> Result<(), Fail> {
     for (text, same) in rows {
-        assert!(rt; only(rt, alloc, text)? == only(rt, alloc, same)?);
+        let found = only(InstructionSet::Core, rt, alloc, text)?;
+        assert!(rt; found == only(InstructionSet::Core, rt, alloc, same)?);
     }
     Ok(())
 }
@@ -299,7 +302,7 @@ fn told(alloc: Global, reading: &Reading) -> Result<String, Fail> {
 #[test]
 fn reads_one_line(rt: HostRuntime) -> Result<(), Fail> {
     for (line, want) in READ {
-        let found = match read_insn(line.as_bytes()) {
+        let found = match read_insn(InstructionSet::Core, line.as_bytes()) {
             Ok(reading) => told(rt.alloc(), &reading)?,
             Err(fault) => format!(in rt.alloc(); "{fault}")?,
         };
@@ -324,7 +327,7 @@ fn blocks_and_their_copies(rt: HostRuntime) -> Result<(), Fail> {
         (true, &[2, 4], Some(1)),
         (false, &[5], None),
     ];
-    let program = read_program(rt.alloc(), text.as_bytes())?;
+    let program = read_program(InstructionSet::Core, rt.alloc(), text.as_bytes())?;
     equal(&rt, &program.blocks().len(), &wants.len());
     for (block, (labelled, lines, aim)) in program.blocks().iter().zip(wants) {
         let copy = block.copy(rt.alloc())?;
@@ -357,6 +360,12 @@ fn an_access(rt: HostRuntime) -> Result<(), Fail> {
         offset: Offset::Constant(3),
     };
     let want = Insn::new(Op::Ldh, operands, None, None)?;
-    equal(&rt, &only(&rt, rt.alloc(), "LDH *A4++[3],B15 ; c")?, &want);
+    let found = only(
+        InstructionSet::Core,
+        &rt,
+        rt.alloc(),
+        "LDH *A4++[3],B15 ; c",
+    )?;
+    equal(&rt, &found, &want);
     Ok(())
 }

@@ -9,7 +9,8 @@ use Rattle.c62_token.proofs.Common.{kinds_of, ◌<◌, ◌≤◌}
 use Rattle.std.specs.Str.Parse.{digits_value_after}
 use Rattle.std.proofs.lemmas.Bool.{agree_below, agree_below_at}
 use Rattle.c62_token.specs.Number.{decimal_of, file_of, hexadecimal_of, is_label, magnitude_of, number_of, register_of}
-use Rattle.c62_token.specs.Number.{signed_of}
+use Rattle.c62_token.specs.Number.{signed_of, pointer_of, behind_zero, suffixed_magnitude, signed_suffixed, suffixed_of}
+use Rattle.c62_token.proofs.Common.{get_or, take, suc, zero as nought, ◌-◌}
 use Rattle.c62_token.specs.Kind.{kind_of, mark_of as written_mark, single_mark}
 use Rattle.c62_token.proofs.TokenLemmas.{by_test, on_test}
 
@@ -117,6 +118,54 @@ number_low : (w : List ℕ) → number_of (low w) ≡ number_of w
 unfolding number_of signed_of magnitude_of low_byte
 number_low w = grind (arith, nat_tests, hexadecimal_low, decimal_low)
 
+-- ---- other spellings
+
+pointer_low : (w : List ℕ) → pointer_of (low w) ≡ pointer_of w
+unfolding pointer_of
+pointer_low w = simp spells_low
+
+at_low : (zero : Bool) (w : List ℕ) (i : ℕ)
+    → to_ascii_lowercase (get_or (lowered zero w) i 0) ≡ to_ascii_lowercase (get_or w i 0)
+at_low zero [] i = refl
+at_low zero (b ∷ w) nought = byte_low to_ascii_lowercase (λ b high less. grind (arith, nat_tests)) zero b
+at_low zero (b ∷ w) (suc i) = at_low (eqb b 48) w i
+
+take_low : (n : ℕ) (zero : Bool) (w : List ℕ) → take n (lowered zero w) ≡ lowered zero (take n w)
+take_low nought zero w = refl
+take_low (suc n) zero [] = refl
+take_low (suc n) zero (b ∷ w) = rw (take_low n (eqb b 48) w) refl
+
+digit_low : (zero : Bool) (w : List ℕ) → begins is_ascii_digit (lowered zero w) ≡ begins is_ascii_digit w
+digit_low zero [] = refl
+digit_low zero (b ∷ w) = test_low is_ascii_digit refl zero b
+
+behind_low : (zero : Bool) (w : List ℕ)
+    → hexadecimal_of (behind_zero (lowered zero w)) ≡ hexadecimal_of (behind_zero w)
+behind_low zero [] = refl
+behind_low zero (b ∷ []) = hexadecimal_low zero (b ∷ [])
+behind_low zero (b ∷ d ∷ ds) = rw (test_low (λ x. eqb x 48) refl zero b) (by_first (eqb b 48))
+  where
+    by_first : (first : Bool)
+        → hexadecimal_of (cond first (lowered (eqb b 48) (d ∷ ds)) (lowered zero (b ∷ d ∷ ds)))
+        ≡ hexadecimal_of (cond first (d ∷ ds) (b ∷ d ∷ ds))
+    by_first true = hexadecimal_low (eqb b 48) (d ∷ ds)
+    by_first false = hexadecimal_low zero (b ∷ d ∷ ds)
+
+suffixed_magnitude_low : (zero : Bool) (w : List ℕ) → suffixed_magnitude (lowered zero w) ≡ suffixed_magnitude w
+unfolding suffixed_magnitude
+suffixed_magnitude_low zero w =
+    rw (
+      digit_low zero w,
+      length_low zero w,
+      at_low zero w (length w - 1),
+      take_low (length w - 1) zero w,
+      behind_low zero (take (length w - 1) w),
+    ) refl
+
+suffixed_low : (w : List ℕ) → suffixed_of (low w) ≡ suffixed_of w
+unfolding suffixed_of signed_suffixed low_byte
+suffixed_low w = grind (arith, nat_tests, suffixed_magnitude_low)
+
 -- ---- labels
 
 pub label_low : (w : List ℕ) → is_label (low w) ≡ is_label w
@@ -175,4 +224,4 @@ tokens_low line = tokens_lowered false line ∙ first_plain (tokens line)
 pub kinds_low : (ws : List Word) → kinds_of (lows ws) ≡ kinds_of ws
 unfolding kind_of written_mark low_byte single_mark
 kinds_low [] = refl
-kinds_low (w ∷ ws) = grind (arith, nat_tests, register_low, number_low, kinds_low ws)
+kinds_low (w ∷ ws) = grind (arith, nat_tests, register_low, number_low, pointer_low, suffixed_low, kinds_low ws)

@@ -1,6 +1,6 @@
 -- What a word says as a number, as a register or as a label.
 use Rattle.std.specs.Prelude.{ℕ, ◌-◌, ◌≡◌, refl, ℤ, pos, neg_ℤ, int_le, Bool, true, false, not, ◌==◌, ◌&&◌, ◌||◌, nat_le, nat_lt, List, [], ◌∷◌}
-use Rattle.std.specs.Prelude.{length, map, drop, Option, Some, None, is_some, option_map, option_and_then, nat_eq, codes, if◌then◌else◌}
+use Rattle.std.specs.Prelude.{length, map, drop, Option, Some, None, is_some, option_map, option_and_then, nat_eq, get_or, take, codes, if◌then◌else◌}
 use Rattle.std.specs.List.{list_all, starts_with}
 use Rattle.std.specs.Char.{digit_value, to_ascii_lowercase, is_ascii_digit}
 use Rattle.std.specs.Str.{bytes_eq}
@@ -80,6 +80,38 @@ register_of (letter ∷ []) = None
 register_of (letter ∷ d ∷ []) = if is_ascii_digit d then in_file (file_of letter) (d - 48) else None
 register_of (letter ∷ ten ∷ d ∷ []) = if ten == 49 && is_ascii_digit d then in_file (file_of letter) (d - 38) else None
 register_of (letter ∷ ten ∷ d ∷ e ∷ rest) = None
+
+-- the pointers SP, DP and FP, which are other names of B15, B14 and A15
+unfoldable pub pointer_of : List ℕ → Option Reg
+pointer_of word =
+    if spells (codes "SP") word then numbered B 15
+    else (if spells (codes "DP") word then numbered B 14
+    else (if spells (codes "FP") word then numbered A 15
+    else None))
+
+-- one to eight hexadecimal digits and an `h`, of which the first is a decimal one
+abbrev pub ends_in_h : List ℕ → Bool
+ends_in_h word = to_ascii_lowercase (get_or word (length word - 1) 0) == 104
+
+-- the digits behind a 0 in front, which a letter needs and which counts for nothing, where others follow it
+abbrev pub behind_zero : List ℕ → List ℕ
+behind_zero (b ∷ d ∷ ds) = if b == 48 then d ∷ ds else b ∷ d ∷ ds
+behind_zero digits = digits
+
+unfoldable pub suffixed_magnitude : List ℕ → Option ℕ
+suffixed_magnitude word =
+    if begins is_ascii_digit word && ends_in_h word then hexadecimal_of (behind_zero (take (length word - 1) word)) else None
+
+-- such a magnitude, behind one sign or none
+unfoldable pub signed_suffixed : List ℕ → Option ℤ
+signed_suffixed [] = None
+signed_suffixed (b ∷ ds) =
+    if b == 45 then option_map negative (suffixed_magnitude ds)
+    else (if b == 43 then option_map pos (suffixed_magnitude ds)
+    else option_map pos (suffixed_magnitude (b ∷ ds)))
+
+unfoldable pub suffixed_of : List ℕ → Option ℤ
+suffixed_of word = option_and_then in_range (signed_suffixed word)
 
 -- ---- labels
 

@@ -1,12 +1,13 @@
 //! What a token is, whatever the case of its letters.
 
 ghost use Rattle.std.specs.Prelude.{◌≡◌, ◌<◌, ◌++◌, [], ◌∷◌, length, map, MatchOption};
+ghost use Rattle.c62_token.specs.Number.{pointer_of, suffixed_of};
 ghost use Rattle.c62_token.specs.Token.{tokens, words_left};
 
-use crate::number::{number, register};
+use crate::number::{number, pointer, register, suffixed};
 use crate::token::{Tokens, from_token, token_len};
 use arrayvec::ArrayVec;
-use c62_op::Reg;
+use c62_op::{InstructionSet, Reg};
 
 /// What a token is. A name tells by its bytes what it stands for.
 #[derive(Clone, Copy, Default)]
@@ -31,12 +32,16 @@ pub enum Kind {
     Decrement,
     Register(Reg),
     Number(i64),
+    /// `SP`, `DP` or `FP`, to which the full set of instructions takes the register.
+    Alias(Reg),
+    /// A hexadecimal number with an `h` behind it, which that set alone takes.
+    Suffixed(i64),
     /// Any other token, such as a mnemonic, a unit or a label.
     #[default]
     Name,
 }
 
-ghost use Rattle.c62_token.specs.Kind.{lone_mark, single_mark, mark_of, kind_of, IsFirstKind, IsKindCutOff, HoldsKinds};
+ghost use Rattle.c62_token.specs.Kind.{lone_mark, other_kind, read_in, single_mark, mark_of, kind_of, IsFirstKind, IsKindCutOff, HoldsKinds};
 
 #[inline(always)]
 #[tactic(auto, unfolding(crate::specs::Kind::single_mark))]
@@ -69,6 +74,19 @@ pub fn mark(word: &[u8]) -> Option<Kind>
     }
 }
 
+/// A register or a number by another spelling, or else a name.
+fn other_kind(word: &[u8]) -> Kind
+    ensures { result ≡ other_kind (pointer_of word.now) (suffixed_of word.now) }
+{
+    if let Some(reg) = pointer(word) {
+        Kind::Alias(reg)
+    } else if let Some(number) = suffixed(word) {
+        Kind::Suffixed(number)
+    } else {
+        Kind::Name
+    }
+}
+
 impl Kind {
     /// What the token of these bytes is.
     #[inline(always)]
@@ -83,7 +101,18 @@ impl Kind {
         } else if let Some(number) = number(word) {
             Kind::Number(number)
         } else {
-            Kind::Name
+            other_kind(word)
+        }
+    }
+
+    /// What the token is to the reader of a set: another spelling is what it stands for, where the set has it.
+    pub fn read_in(self, set: InstructionSet) -> Kind
+        ensures { result ≡ read_in set self }
+    {
+        match (set, self) {
+            (InstructionSet::Full, Kind::Alias(reg)) => Kind::Register(reg),
+            (InstructionSet::Full, Kind::Suffixed(number)) => Kind::Number(number),
+            (_, kind) => kind,
         }
     }
 }
@@ -129,23 +158,24 @@ impl<'a> Tokens<'a> {
         Some((Kind::of(word), self.behind()))
     }
 
-    /// Adds what the tokens are. False where these are more than there is room for: no line has so many operands.
+    /// Adds what the tokens are to the reader of a set. False where these are more than there is room for: no line has so many
+    /// operands.
     #[inline(always)]
     #[tactic(auto, unfolding(crate::specs::Token::words_left))]
-    pub fn add_kinds(self, kinds: &mut ArrayVec<Kind, 8>) -> bool
+    pub fn add_kinds(self, set: InstructionSet, kinds: &mut ArrayVec<Kind, 8>) -> bool
         requires { kinds.old.items ≡ [] }
-        ensures { HoldsKinds result kinds.new.items (words_left self.entry) }
+        ensures { HoldsKinds set result kinds.new.items (words_left self.entry) }
     {
         if self.first.is_empty() {
             return true;
         }
-        kinds.push(Kind::of(self.first));
+        kinds.push(Kind::of(self.first).read_in(set));
         let mut rest = self.rest;
         while let Some((kind, behind)) = next_kind(rest) {
             if kinds.is_full() {
                 return false;
             }
-            kinds.push(kind);
+            kinds.push(kind.read_in(set));
             rest = behind;
         }
         true

@@ -5,7 +5,7 @@ ghost use Rattle.std.specs.List.{list_all};
 ghost use Rattle.std.specs.Char.{is_ascii_digit};
 ghost use Rattle.std.specs.Str.Parse.{digits_value};
 ghost use Rattle.c62_token.specs.Token.{begins, is_word_byte};
-ghost use Rattle.c62_token.specs.Number.{spells, are_digits, decimal_of, hexadecimal_of, magnitude_of, signed_of, number_of, numbered, file_of, register_of, is_label};
+ghost use Rattle.c62_token.specs.Number.{spells, are_digits, decimal_of, hexadecimal_of, magnitude_of, signed_of, in_range, number_of, numbered, file_of, register_of, pointer_of, ends_in_h, behind_zero, suffixed_magnitude, signed_suffixed, suffixed_of, is_label};
 
 use crate::token::is_word_byte;
 use c62_op::{Reg, Side};
@@ -90,18 +90,24 @@ fn signed(word: &[u8]) -> Option<i64>
     }
 }
 
+/// A number from -2,147,483,648 to 4,294,967,295.
+fn in_range(number: i64) -> Option<i64>
+    ensures { result ≡ in_range number }
+{
+    if -2_147_483_648 <= number && number <= 4_294_967_295 {
+        Some(number)
+    } else {
+        None
+    }
+}
+
 /// The number that a word says, with or without a sign: a decimal one of at most ten digits without leading zeros, or `0x`
 /// and at most eight hexadecimal digits, from -2,147,483,648 to 4,294,967,295. None for any other word.
 #[tactic(auto, unfolding(crate::specs::Number::number_of))]
 pub fn number(word: &[u8]) -> Option<i64>
     ensures { result ≡ number_of word.now }
 {
-    let number = signed(word)?;
-    if -2_147_483_648 <= number && number <= 4_294_967_295 {
-        Some(number)
-    } else {
-        None
-    }
+    in_range(signed(word)?)
 }
 
 /// The register of this number in a file, where the file has one.
@@ -141,6 +147,83 @@ pub fn register(word: &[u8]) -> Option<Reg>
         [letter, b'1', digit @ b'0'..=b'9'] => numbered(file(*letter)?, *digit - b'0' + 10),
         _ => None,
     }
+}
+
+/// The register that `SP`, `DP` or `FP` names, in either case: B15, B14 or A15.
+#[tactic(auto, unfolding(crate::specs::Number::pointer_of))]
+pub(crate) fn pointer(word: &[u8]) -> Option<Reg>
+    ensures { result ≡ pointer_of word.now }
+{
+    if spells(b"SP", word) {
+        numbered(Side::B, 15)
+    } else if spells(b"DP", word) {
+        numbered(Side::B, 14)
+    } else if spells(b"FP", word) {
+        numbered(Side::A, 15)
+    } else {
+        None
+    }
+}
+
+fn begins_as_number(word: &[u8]) -> bool
+    ensures { result ≡ begins is_ascii_digit word.now }
+{
+    match word {
+        [] => false,
+        [first, ..] => first.is_ascii_digit(),
+    }
+}
+
+fn ends_in_h(word: &[u8]) -> bool
+    ensures { result ≡ ends_in_h word.now }
+{
+    match word.last() {
+        Some(b) => b.to_ascii_lowercase() == b'h',
+        None => false,
+    }
+}
+
+/// The digits behind a 0 in front, which a letter needs and which counts for nothing, where others follow it.
+fn behind_zero(digits: &[u8]) -> &[u8]
+    ensures { result.now ≡ behind_zero digits.now }
+{
+    match digits {
+        [b'0', _, ..] => &digits[1..],
+        _ => digits,
+    }
+}
+
+#[tactic(auto, unfolding(crate::specs::Number::suffixed_magnitude))]
+fn suffixed_magnitude(word: &[u8]) -> Option<u64>
+    ensures value { result ≡ suffixed_magnitude word.now }
+    ensures bound { IfSome result (λ n. n < 2 ^ 40) }
+{
+    if begins_as_number(word) && ends_in_h(word) {
+        hexadecimal(behind_zero(&word[..word.len() - 1]))
+    } else {
+        None
+    }
+}
+
+#[tactic(auto, unfolding(crate::specs::Number::signed_suffixed))]
+fn signed_suffixed(word: &[u8]) -> Option<i64>
+    ensures { result ≡ signed_suffixed word.now }
+{
+    match word {
+        [] => None,
+        [b'-', digits @ ..] => Some(-(suffixed_magnitude(digits)? as i64)),
+        [b'+', digits @ ..] => Some(suffixed_magnitude(digits)? as i64),
+        [_, ..] => Some(suffixed_magnitude(word)? as i64),
+    }
+}
+
+/// The number that one to eight hexadecimal digits with an `h` behind them say, with or without a sign; within the bounds of
+/// [`number`]. The first is a decimal digit: a letter has a 0 in front, which isn't one of the eight.
+#[tactic(auto, unfolding(crate::specs::Number::suffixed_of))]
+pub(crate) fn suffixed(word: &[u8]) -> Option<i64>
+    ensures { result ≡ suffixed_of word.now }
+{
+    in_range(signed_suffixed(word)?)
 }
 
 fn begins_as_name(word: &[u8]) -> bool

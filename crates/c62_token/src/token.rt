@@ -156,6 +156,7 @@ impl<'a> Tokens<'a> {
     }
 
     /// What is left of the first token, and the others.
+    #[inline(always)]
     #[tactic(auto, unfolding(crate::specs::Token::words_left))]
     pub fn from_left(self, left: &'a [u8]) -> Tokens<'a>
         ensures { words_left result ≡ put_back left.now (tokens self.entry.rest.now) }

@@ -3,6 +3,7 @@
 ghost use Rattle.std.specs.Prelude.{◌≤◌};
 
 use c62_explain::{explain, lint, page};
+use c62_op::InstructionSet;
 use c62_read::read_program;
 use std::alloc::Global;
 use std::process::Abort;
@@ -10,10 +11,10 @@ use std::test::Fail;
 
 /// What is said of a text: the one line, and what explains it.
 fn told(alloc: Global, text: &str) -> Result<String, Fail> {
-    match read_program(alloc, text.as_bytes()) {
+    match read_program(InstructionSet::Core, alloc, text.as_bytes()) {
         Ok(_) => Ok(format!(in alloc; "read")?),
         Err(fault) => {
-            let explained = explain(alloc, b"k.s", text.as_bytes(), fault)?;
+            let explained = explain(InstructionSet::Core, alloc, b"k.s", text.as_bytes(), fault)?;
             let explained = str::from_utf8(&explained).unwrap_or("no text");
             Ok(format!(in alloc; "{fault}\n{explained}")?)
         }
@@ -341,7 +342,7 @@ const LINTED: [&str; 3] = [
 fn linted(alloc: Global, text: &str, most: usize) -> Result<String, Fail>
     requires { 1 ≤ most }
 {
-    let found = lint(alloc, b"k.s", text.as_bytes(), most)?;
+    let found = lint(InstructionSet::Core, alloc, b"k.s", text.as_bytes(), most)?;
     let found = str::from_utf8(&found).unwrap_or("no text");
     Ok(format!(in alloc; "{found}")?)
 }

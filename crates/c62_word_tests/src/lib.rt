@@ -7,4 +7,6 @@ mod command;
 #[cfg(test)]
 mod explain;
 #[cfg(test)]
+mod isa;
+#[cfg(test)]
 mod tracing;

@@ -5,6 +5,7 @@ use crate::{FreeGate, Options, finish, schedule, turns};
 use c62_board::{Board, Entry, Spot, Turn, Who};
 use c62_depend::Plan;
 use c62_insn::{Letter, Side, Unit};
+use c62_op::InstructionSet;
 use c62_read::read_program;
 use std::alloc::Global;
 use std::process::Abort;
@@ -59,7 +60,7 @@ const CYCLES: [u16; 6] = [0, 0, 0, 1, 1, 3];
 
 /// The plan of the only block of a text.
 fn plan_of(rt: &impl Abort, alloc: Global, text: &str) -> Result<Plan, Fail> {
-    let mut blocks = read_program(alloc, text.as_bytes())?.into_blocks();
+    let mut blocks = read_program(InstructionSet::Core, alloc, text.as_bytes())?.into_blocks();
     equal_in(rt, &text, &blocks.len(), &1);
     let block = blocks.pop().expect(rt, "a block");
     match Plan::new(alloc, block) {
@@ -181,7 +182,9 @@ fn finishing_a_chain_of_256(rt: HostRuntime) -> Result<(), Fail> {
 
 /// The plan of the block of six, where memory is given.
 fn plan_of_six(alloc: Global) -> Option<Plan> {
-    let mut blocks = read_program(alloc, SIX.as_bytes()).ok()?.into_blocks();
+    let mut blocks = read_program(InstructionSet::Core, alloc, SIX.as_bytes())
+        .ok()?
+        .into_blocks();
     Plan::new(alloc, blocks.pop()?).ok()
 }
 

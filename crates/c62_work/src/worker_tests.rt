@@ -8,6 +8,7 @@ use crate::{FreeGate, Gate, Options, schedule, worker};
 use c62_board::{Board, Entry, Proposal, Spot, Turn, Who};
 use c62_depend::Plan;
 use c62_insn::{Letter, Side, Unit};
+use c62_op::InstructionSet;
 use c62_read::read_program;
 use c62_view::{Desk, Viewer, desk_of};
 use std::alloc::Global;
@@ -29,7 +30,7 @@ const IN_ORDER: &str = "+0@0.D2T +1@0.L2T +2@0.L1T +3@1.L1T +4@1.M1T +5@3.M1T ";
 
 /// The plan of the only block of a text.
 pub(crate) fn plan_of(rt: &impl Abort, alloc: Global, text: &str) -> Result<Plan, Fail> {
-    let mut blocks = read_program(alloc, text.as_bytes())?.into_blocks();
+    let mut blocks = read_program(InstructionSet::Core, alloc, text.as_bytes())?.into_blocks();
     equal_in(rt, &text, &blocks.len(), &1);
     match Plan::new(alloc, blocks.pop().expect(rt, "a block")) {
         Ok(plan) => Ok(plan),

@@ -1,9 +1,9 @@
 //! The instruction table of `docs/MACHINE.md`, row by row: each unit takes what its rows say, and refuses all else.
 
-use super::{A1, A2, A3, A4, B1, B2, B4, THREE, access, effect, field};
+use super::{A1, A2, A3, A4, B1, B2, B4, B14, THREE, access, effect, field};
 use crate::expect::equal_in;
 use c62_insn::{FormFault, Insn};
-use c62_op::{AddressForm, Letter, Offset, Op, Operands, Reg, Side, Unit};
+use c62_op::{AddressForm, InstructionSet, Letter, Offset, Op, Operands, Reg, Side, Unit};
 use std::process::Abort;
 use std::test::Fail;
 
@@ -25,8 +25,11 @@ enum Row {
     Constant(i64, i64),
     /// An address with an offset of 0 to 31, and a register of either file.
     Access,
+    /// `*+B14[k]` or `*+B15[k]` with k of 0 to 32767, and a register of either file.
+    Far,
     Label,
-    Target,
+    /// A register of file B, or of either where it may cross.
+    Target(bool),
 }
 
 const MULTIPLIES: [Op; 8] = [
@@ -63,8 +66,8 @@ const ADDRESSES: [Op; 3] = [Op::Addab, Op::Addah, Op::Addaw];
 
 const BOTH: [Letter; 2] = [Letter::L, Letter::S];
 
-/// The rows: operations, units and operands.
-const ROWS: [(&[Op], &[Letter], Row); 29] = [
+/// The rows of the core set: operations, units and operands.
+const ROWS: [(&[Op], &[Letter], Row); 30] = [
     (&[Op::Add], &BOTH, Row::Sources(false, true)),
     (&[Op::Add], &BOTH, Row::ConstantFirst(-16, 15, true)),
     (&[Op::Add], &[Letter::D], Row::Sources(false, false)),
@@ -106,6 +109,62 @@ const ROWS: [(&[Op], &[Letter], Row); 29] = [
     (&ADDRESSES, &[Letter::D], Row::ConstantSecond(false, 0, 31)),
     (&ACCESSES, &[Letter::D], Row::Access),
     (&[Op::B], &[Letter::S], Row::Label),
+    (&[Op::B], &[Letter::S], Row::Target(false)),
+];
+
+const SATURATING: [Op; 2] = [Op::Sadd, Op::Lmbd];
+
+const FIELDS: [Op; 4] = [Op::Ext, Op::Extu, Op::Set, Op::Clr];
+
+const DIFFERENCES: [Op; 3] = [Op::Subab, Op::Subah, Op::Subaw];
+
+const MORE_MULTIPLIES: [Op; 12] = [
+    Op::Smpy,
+    Op::Smpyh,
+    Op::Smpyhl,
+    Op::Smpylh,
+    Op::Mpyhlu,
+    Op::Mpylhu,
+    Op::Mpyhus,
+    Op::Mpyhsu,
+    Op::Mpyhuls,
+    Op::Mpyhslu,
+    Op::Mpyluhs,
+    Op::Mpylshu,
+];
+
+/// The rows that the full set has beside those.
+const MORE_ROWS: [(&[Op], &[Letter], Row); 18] = [
+    (&SATURATING, &[Letter::L], Row::Sources(false, true)),
+    (&SATURATING, &[Letter::L], Row::ConstantFirst(-16, 15, true)),
+    (&[Op::Ssub], &[Letter::L], Row::Sources(false, true)),
+    (&[Op::Ssub], &[Letter::L], Row::Sources(true, false)),
+    (&[Op::Ssub], &[Letter::L], Row::ConstantFirst(-16, 15, true)),
+    (&[Op::Subc], &[Letter::L], Row::Sources(false, true)),
+    (&[Op::Norm], &[Letter::L], Row::Source),
+    (
+        &[Op::Cmpgtu, Op::Cmpltu],
+        &[Letter::L],
+        Row::ConstantFirst(0, 15, true),
+    ),
+    (&[Op::Sshl], &[Letter::S], Row::Sources(true, false)),
+    (&[Op::Sshl], &[Letter::S], Row::ConstantSecond(true, 0, 31)),
+    (&[Op::Set, Op::Clr], &[Letter::S], Row::Field),
+    (&FIELDS, &[Letter::S], Row::Sources(true, false)),
+    (&MORE_MULTIPLIES, &[Letter::M], Row::Sources(false, true)),
+    (
+        &[Op::Mpysu],
+        &[Letter::M],
+        Row::ConstantFirst(-16, 15, true),
+    ),
+    (&DIFFERENCES, &[Letter::D], Row::Sources(false, false)),
+    (
+        &DIFFERENCES,
+        &[Letter::D],
+        Row::ConstantSecond(false, 0, 31),
+    ),
+    (&ACCESSES, &[Letter::D], Row::Far),
+    (&[Op::B], &[Letter::S], Row::Target(true)),
 ];
 
 /// The constants that are tried: both ends of each range, the first value beyond on either side, and 0.
@@ -135,7 +194,7 @@ fn constants(row: Row, operands: Operands) -> Option<(i64, i64, i64, i64)> {
             },
         )
         | (Row::Label, Operands::Block(_))
-        | (Row::Target, Operands::Register(_)) => Some((0, 0, 0, 0)),
+        | (Row::Target(_), Operands::Register(_)) => Some((0, 0, 0, 0)),
         (Row::ConstantFirst(low, high, _), Operands::ConstantFirst(k, _, _))
         | (Row::ConstantSecond(_, low, high), Operands::ConstantSecond(_, k, _))
         | (Row::Constant(low, high), Operands::Constant(k, _)) => Some((low, high, k, k)),
@@ -154,6 +213,15 @@ fn constants(row: Row, operands: Operands) -> Option<(i64, i64, i64, i64)> {
                 ..
             },
         ) => Some((0, 31, k, k)),
+        (
+            Row::Far,
+            Operands::Access {
+                base,
+                form: AddressForm::Plus,
+                offset: Offset::Constant(k),
+                ..
+            },
+        ) if base == B14 => Some((0, 32767, k, k)),
         _ => None,
     }
 }
@@ -194,46 +262,58 @@ fn lies(row: Row, operands: Operands, side: Side) -> bool {
                 }
         }
         (Row::Label, Operands::Block(_)) => true,
-        (Row::Target, Operands::Register(reg)) => reg.side == Side::B && side == Side::B,
+        (Row::Far, Operands::Access { base, .. }) => base == B14 && side == Side::B,
+        (Row::Target(crosses), Operands::Register(reg)) => (crosses || reg.side == side)
+            && side == Side::B,
         _ => false,
     }
 }
 
-fn is_taken(op: Op, operands: Operands, unit: Unit) -> bool {
-    let mut taken = op == Op::B
-        && unit.letter == Letter::S
-        && lies(Row::Target, operands, unit.side);
-    for (ops, letters, row) in &ROWS {
-        taken = taken
-            || ops.contains(&op)
-                && letters.contains(&unit.letter)
-                && is_of(*row, operands)
-                && lies(*row, operands, unit.side);
+/// The rows that the full set has beside those of the core; of the core none.
+fn more_rows(set: InstructionSet) -> &'static [(&'static [Op], &'static [Letter], Row)] {
+    match set {
+        InstructionSet::Core => &[],
+        InstructionSet::Full => &MORE_ROWS,
+    }
+}
+
+fn is_taken(set: InstructionSet, op: Op, operands: Operands, unit: Unit) -> bool {
+    let mut taken = false;
+    for rows in [&ROWS, more_rows(set)] {
+        for (ops, letters, row) in rows {
+            taken = taken
+                || ops.contains(&op)
+                    && letters.contains(&unit.letter)
+                    && is_of(*row, operands)
+                    && lies(*row, operands, unit.side);
+        }
     }
     taken
 }
 
 /// Whether an operation has such constants somewhere, of those that have constants there at all.
-fn is_beyond(op: Op, operands: Operands) -> bool {
+fn is_beyond(set: InstructionSet, op: Op, operands: Operands) -> bool {
     let mut known = false;
     let mut within = false;
-    for (ops, _, row) in &ROWS {
-        if ops.contains(&op) {
-            known = known || constants(*row, operands).is_some();
-            within = within || is_of(*row, operands);
+    for rows in [&ROWS, more_rows(set)] {
+        for (ops, _, row) in rows {
+            if ops.contains(&op) {
+                known = known || constants(*row, operands).is_some();
+                within = within || is_of(*row, operands);
+            }
         }
     }
     known && !within
 }
 
 /// Each unit takes the operands where the table says so, and a constant beyond all ranges is told as such.
-fn check(rt: &impl Abort, op: Op, operands: Operands) {
-    let bare = Insn::new(op, operands, None, None);
+fn check(rt: &impl Abort, set: InstructionSet, op: Op, operands: Operands) {
+    let bare = Insn::new_in(set, op, operands, None, None);
     let mut any = false;
     for unit in Unit::ALL {
-        let want = is_taken(op, operands, unit);
+        let want = is_taken(set, op, operands, unit);
         any = any || want;
-        let written = Insn::new(op, operands, None, Some(unit));
+        let written = Insn::new_in(set, op, operands, None, Some(unit));
         equal_in(rt, &(op, operands, unit), &written.is_ok(), &want);
         if let Ok(insn) = bare {
             equal_in(rt, &(op, operands, unit), &insn.units().has(unit), &want);
@@ -241,71 +321,130 @@ fn check(rt: &impl Abort, op: Op, operands: Operands) {
     }
     equal_in(rt, &(op, operands), &bare.is_ok(), &any);
     let beyond = bare.err() == Some(FormFault::ConstantRange);
-    equal_in(rt, &(op, operands), &beyond, &is_beyond(op, operands));
+    equal_in(rt, &(op, operands), &beyond, &is_beyond(set, op, operands));
 }
 
-fn check_constants(rt: &impl Abort, op: Op, a: Reg, d: Reg) {
+fn check_constants(rt: &impl Abort, set: InstructionSet, op: Op, a: Reg, d: Reg) {
     for k in CONSTANTS {
-        check(rt, op, Operands::ConstantFirst(k, a, d));
-        check(rt, op, Operands::ConstantSecond(a, k, d));
-        check(rt, op, field(a, k, 0, d));
-        check(rt, op, field(a, 31, k, d));
-        check(rt, op, Operands::Constant(k, d));
+        check(rt, set, op, Operands::ConstantFirst(k, a, d));
+        check(rt, set, op, Operands::ConstantSecond(a, k, d));
+        check(rt, set, op, field(a, k, 0, d));
+        check(rt, set, op, field(a, 31, k, d));
+        check(rt, set, op, Operands::Constant(k, d));
         check(
             rt,
+            set,
             op,
             access(d, a, AddressForm::Minus, Offset::Constant(k)),
+        );
+        check(
+            rt,
+            set,
+            op,
+            access(d, B14, AddressForm::Plus, Offset::Constant(k)),
         );
     }
 }
 
-#[test]
-fn takes_what_the_table_says(rt: HostRuntime) {
-    for op in Op::ALL {
+/// All operations of the list, with operands of all kinds.
+fn check_all(rt: &impl Abort, set: InstructionSet, ops: &[Op]) {
+    for op in ops.iter().copied() {
         for d in [A3, B4] {
             for a in [A1, B1] {
                 for b in [A2, B2] {
-                    check(&rt, op, Operands::Three(a, b, d));
+                    check(rt, set, op, Operands::Three(a, b, d));
                     for form in FORMS {
-                        check(&rt, op, access(d, a, form, Offset::Register(b)));
+                        check(rt, set, op, access(d, a, form, Offset::Register(b)));
                     }
                 }
-                check(&rt, op, Operands::Two(a, d));
-                check_constants(&rt, op, a, d);
+                check(rt, set, op, Operands::Two(a, d));
+                check_constants(rt, set, op, a, d);
             }
-            check(&rt, op, Operands::Register(d));
+            check(rt, set, op, Operands::Register(d));
         }
-        check(&rt, op, Operands::Block(7));
+        check(rt, set, op, Operands::Block(7));
     }
 }
 
 #[test]
+fn core_takes_what_its_table_says(rt: HostRuntime) {
+    check_all(&rt, InstructionSet::Core, &Op::ALL);
+}
+
+#[test]
+fn full_set_takes_its_products(rt: HostRuntime) {
+    check_all(&rt, InstructionSet::Full, &MULTIPLIES);
+    check_all(&rt, InstructionSet::Full, &MORE_MULTIPLIES);
+}
+
+#[test]
+fn full_set_takes_its_addresses(rt: HostRuntime) {
+    check_all(&rt, InstructionSet::Full, &ACCESSES);
+    check_all(&rt, InstructionSet::Full, &ADDRESSES);
+    check_all(&rt, InstructionSet::Full, &DIFFERENCES);
+    check_all(&rt, InstructionSet::Full, &[Op::B]);
+}
+
+#[test]
+fn full_set_takes_its_sums_and_bits(rt: HostRuntime) {
+    for ops in [&LOGIC, &COMPARES, &SHIFTS] {
+        check_all(&rt, InstructionSet::Full, ops);
+    }
+    check_all(&rt, InstructionSet::Full, &FIELDS);
+    check_all(&rt, InstructionSet::Full, &SATURATING);
+    let others = [
+        Op::Add,
+        Op::Sub,
+        Op::Abs,
+        Op::Add2,
+        Op::Sub2,
+        Op::Cmpgtu,
+        Op::Cmpltu,
+        Op::Mvk,
+        Op::Mvklh,
+        Op::Addk,
+        Op::Ssub,
+        Op::Subc,
+        Op::Norm,
+        Op::Sshl,
+    ];
+    check_all(&rt, InstructionSet::Full, &others);
+}
+
+#[test]
 fn misplaced_sources(rt: HostRuntime) {
-    let fixed_first = [Op::Sub2, Op::Addab, Op::Addah, Op::Addaw];
-    let crossing_first = [Op::Sub, Op::Shl, Op::Shr, Op::Shru];
-    let fixed_second = [Op::Shl, Op::Shr, Op::Shru, Op::Addab, Op::Addah, Op::Addaw];
+    let both = [
+        Op::Addab,
+        Op::Addah,
+        Op::Addaw,
+        Op::Subab,
+        Op::Subah,
+        Op::Subaw,
+    ];
+    let counted = [Op::Shl, Op::Shr, Op::Shru, Op::Sshl];
+    let fixed_first = |op: &Op| [Op::Sub2, Op::Subc, Op::Lmbd].contains(op) || both.contains(op);
+    let crossing_first = |op: &Op| [Op::Sub, Op::Ssub].contains(op)
+        || counted.contains(op)
+        || FIELDS.contains(op);
+    let fixed_second = |op: &Op| counted.contains(op) || both.contains(op) || FIELDS.contains(op);
     let side = Some(FormFault::BadSide);
     for op in Op::ALL {
         if Insn::new(op, THREE, None, None).is_ok() {
             let first = Insn::new(op, Operands::Three(B1, A2, A3), None, None).err();
-            let want = if fixed_first.contains(&op) {
+            let want = if fixed_first(&op) {
                 side
-            } else if crossing_first.contains(&op) {
+            } else if crossing_first(&op) {
                 None
             } else {
                 Some(FormFault::NoUnit)
             };
             equal_in(&rt, &op, &first, &want);
             let second = Insn::new(op, Operands::Three(A1, B2, A3), None, None).err();
-            let want = if fixed_second.contains(&op) {
-                side
-            } else {
-                None
-            };
+            let want = if fixed_second(&op) { side } else { None };
             equal_in(&rt, &op, &second, &want);
         }
     }
-    for op in [Op::Ext, Op::Extu] {
+    for op in FIELDS {
         let field = field(B1, 8, 8, A2);
         equal_in(&rt, &op, &Insn::new(op, field, None, None).err(), &side);
     }
@@ -324,7 +463,7 @@ fn misplaced_sources(rt: HostRuntime) {
 #[test]
 fn delays_of_all_operations(rt: HostRuntime) {
     for op in Op::ALL {
-        let want = if MULTIPLIES.contains(&op) {
+        let want = if MULTIPLIES.contains(&op) || MORE_MULTIPLIES.contains(&op) {
             1
         } else if LOADS.contains(&op) {
             4

@@ -3,6 +3,7 @@
 use super::check_answer;
 use crate::expect::{equal, equal_in};
 use c62_line::{Cause, ReadFault};
+use c62_op::InstructionSet;
 use c62_read::read_program;
 use std::alloc::{AllocError, Global};
 use std::process::Abort;
@@ -107,7 +108,7 @@ fn each_byte_at_each_index(rt: HostRuntime) -> Result<(), Fail> {
             text[index] = byte;
             let allowed = byte == b'\t' || byte == b'\n' || (b' '..=b'~').contains(&byte);
             let ends_line = byte == b'\r' && index + 1 < text.len() && text[index + 1] == b'\n';
-            let is_foreign = match read_program(rt.alloc(), &text) {
+            let is_foreign = match read_program(InstructionSet::Core, rt.alloc(), &text) {
                 Err(ReadFault { cause, .. }) => cause == Cause::NotAscii,
                 Ok(_) => false,
             };
@@ -122,7 +123,7 @@ fn each_byte_at_each_index(rt: HostRuntime) -> Result<(), Fail> {
 #[test]
 fn memory_or_the_answer(rt: HostRuntime) -> Result<(), Fail> {
     let text = b"MVK 3,A1\nL: SUB A1,1,A1\n[A1] B L\nM: NOP\nB B3\nN:";
-    match read_program(rt.alloc(), text) {
+    match read_program(InstructionSet::Core, rt.alloc(), text) {
         Ok(program) => {
             equal(&rt, &program.blocks().len(), &4);
             for block in program.blocks() {

@@ -24,26 +24,26 @@ HaveLists drafts lists = AllZip (λ draft list. AreLawful (map draft_of drafts) 
 
 pub lists_of-requires-clause-few : goal.lists_of-requires-clause-few
 lists_of-requires-clause-few c =
-    let few = cut_few c.args.code.now c.in_ok-cut.cut c.in_ok-cut.ensures in
+    let few = cut_few c.args.isa c.args.code.now c.in_ok-cut.cut c.in_ok-cut.ensures in
     omega (arith, few, ap length c.deref.ensures.value)
 
 pub lists_of-requires-clause-fine : goal.lists_of-requires-clause-fine
 lists_of-requires-clause-fine c =
-    subst (All (λ (draft : DraftRead). IsFine (draft_of draft))) (sym c.deref.ensures.value)
-    (cut_fine c.args.code.now c.in_ok-cut.cut c.in_ok-cut.ensures)
+    subst (All (λ (draft : DraftRead). IsFine c.args.isa (draft_of draft))) (sym c.deref.ensures.value)
+    (cut_fine c.args.isa c.args.code.now c.in_ok-cut.cut c.in_ok-cut.ensures)
 
 pub packets_of-requires-clause-few : goal.packets_of-requires-clause-few
 packets_of-requires-clause-few c =
-    let few = cut_few c.args.code.now c.in_ok-cut.cut c.in_ok-cut.ensures in
+    let few = cut_few c.args.isa c.args.code.now c.in_ok-cut.cut c.in_ok-cut.ensures in
     omega (arith, few, ap length c.deref-2.ensures.value)
 
 pub packets_of-requires-clause-sound : goal.packets_of-requires-clause-sound
 packets_of-requires-clause-sound c =
     let none = (behind_of _ (first_in_flight c.args.drain (cut_of c.in_ok-cut.cut))
     (sym (rw c.in_default.is at c.fault_of.ensures))).1 in
-    subst (λ (ds : List DraftRead). All (λ draft. IsSound (map draft_of ds) (draft_of draft)) ds)
+    subst (λ (ds : List DraftRead). All (λ draft. IsSound c.args.isa (map draft_of ds) (draft_of draft)) ds)
     (sym c.deref-2.ensures.value)
-    (cut_sound c.args.code.now c.in_ok-cut.cut c.in_ok-cut.ensures c.args.drain none)
+    (cut_sound c.args.isa c.args.code.now c.in_ok-cut.cut c.in_ok-cut.ensures c.args.drain none)
 
 pub packets_of-requires-clause-lawful : goal.packets_of-requires-clause-lawful
 packets_of-requires-clause-lawful c =
@@ -65,7 +65,7 @@ returns-in-Some-clause-adopted c =
     )
 
 pub cycles_lacking-requires : goal.cycles_lacking-requires
-cycles_lacking-requires c = record { few = cut_few c.args.code.now c.in_ok-cut.cut c.in_ok-cut.ensures }
+cycles_lacking-requires c = record { few = cut_few c.args.isa c.args.code.now c.in_ok-cut.cut c.in_ok-cut.ensures }
 
 pub returns-clause-closed : goal.returns-clause-closed
 returns-clause-closed c =
@@ -76,4 +76,5 @@ returns-clause-closed c =
     subst (λ (ds : List DraftRead). AllZip (IsBlockOf (map draft_of ds)) (map draft_of ds) c.in_ok-packets.packets)
     c.deref-2.ensures.value
     c.in_ok-packets.ensures in
-    cut_closed c.args.code.now c.in_ok-cut.cut c.in_ok-cut.ensures c.args.drain c.in_ok-packets.packets zip none
+    cut_closed c.args.isa c.args.code.now c.in_ok-cut.cut c.in_ok-cut.ensures c.args.drain c.in_ok-packets.packets zip
+    none

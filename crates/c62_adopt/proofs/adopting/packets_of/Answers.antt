@@ -29,8 +29,8 @@ of_lawful-block-requires c =
     c.in-Some.list c.loop-draft-test.true c.draft-item.is
     (subst (ListsFrom drafts (drop c.loop-draft.draft-index drafts)) c.in-Some.ensures.items
     c.loop-draft.invariant.left) in
-    is_packet_block (map draft_of drafts) (draft_of draft) c.in-Some.list.items next.0
-    (subst (λ (d : DraftRead). IsSound (map draft_of drafts) (draft_of d)) (sym c.draft-item.is)
+    is_packet_block c.args.isa (map draft_of drafts) (draft_of draft) c.in-Some.list.items next.0
+    (subst (λ (d : DraftRead). IsSound c.args.isa (map draft_of drafts) (draft_of d)) (sym c.draft-item.is)
     (c.requires.sound c.loop-draft.draft-index draft c.loop-draft-test.true)) c.copied_label.result
 
 pub put-requires : goal.put-requires
@@ -48,11 +48,12 @@ loop-draft-preserved c =
     (draft_of d).issues list.items) drafts (into_iter_items c.next.new.self) k draft c.in-Some.list
     c.loop-draft-test.true c.draft-item.is
     (subst (ListsFrom drafts (drop k drafts)) c.in-Some.ensures.items c.loop-draft.invariant.left) in
-    let sound : IsSound (map draft_of drafts) (draft_of draft) =
-    subst (λ (d : DraftRead). IsSound (map draft_of drafts) (draft_of d)) (sym c.draft-item.is)
+    let sound : IsSound c.args.isa (map draft_of drafts) (draft_of draft) =
+    subst (λ (d : DraftRead). IsSound c.args.isa (map draft_of drafts) (draft_of d)) (sym c.draft-item.is)
     (c.requires.sound k draft c.loop-draft-test.true) in
     let block : IsMade drafts draft c.of_lawful-block.result =
-    is_block_of (map draft_of drafts) (draft_of draft) c.in-Some.list.items next.0 sound c.of_lawful-block.result
+    is_block_of c.args.isa (map draft_of drafts)
+    (draft_of draft) c.in-Some.list.items next.0 sound c.of_lawful-block.result
     c.copied_label.result c.copied_label.ensures c.of_lawful-block.ensures in
     record {
       made = subst (AllZip (IsMade drafts) (take (k + 1) drafts)) (sym c.in_ok-put.ensures)

@@ -72,4 +72,4 @@ judged-requires-clause-stand c =
     All-take (λ (issue : IssueRead). MayStand (issue_of issue))
     (c.loop-keep.keep + (c.loop-keep.breaks - c.loop-keep.keep) / 2) c.deref.result.now
     (subst (All (λ (issue : IssueRead). MayStand (issue_of issue))) (sym c.deref.ensures.value)
-    (fine_stand c.args.draft.now c.requires.fine))
+    (fine_stand c.args.isa c.args.draft.now c.requires.fine))

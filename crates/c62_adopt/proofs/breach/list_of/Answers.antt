@@ -9,4 +9,4 @@ use Rattle.c62_adopt.proofs.breach.list_of.Goals as goal
 pub judged-requires-clause-stand : goal.judged-requires-clause-stand
 judged-requires-clause-stand c =
     subst (All (λ (issue : IssueRead). MayStand (issue_of issue))) (sym c.deref.ensures.value)
-    (fine_stand c.args.draft.now c.requires.fine)
+    (fine_stand c.args.isa c.args.draft.now c.requires.fine)

@@ -5,8 +5,8 @@ use Rattle.c62_adopt_spell.proofs.text.spelled_text.Given as goal
 
 abbrev pub invariant-loop-line : goal.invariant-loop-line
 invariant-loop-line l =
-    l.other.items ++ text_of (spelled_lines l.names.items (lines_of l.rest)) ≡ text_of
-    (spelled_lines [] (lines_of l.text))
+    l.other.items ++ text_of (spelled_lines l.isa l.names.items (lines_of l.rest)) ≡ text_of
+    (spelled_lines l.isa [] (lines_of l.text))
 
 abbrev pub decreases-loop-line : goal.decreases-loop-line
 decreases-loop-line l = length l.rest

@@ -1,5 +1,17 @@
 use Rattle.c62_answer.proofs.answer.document.Goals as goal
 
+pub returns-in-Pack : goal.returns-in-Pack
+returns-in-Pack g c = rw c.in-Pack.is c.pack_document.ensures
+
+pub returns-in-Show : goal.returns-in-Show
+returns-in-Show g c = rw c.in-Show.is c.show_document.ensures
+
+pub returns-in-ShowListing : goal.returns-in-ShowListing
+returns-in-ShowListing g c = rw c.in-ShowListing.is c.show_listing_document.ensures
+
+pub returns-in-ShowPackets : goal.returns-in-ShowPackets
+returns-in-ShowPackets g c = rw c.in-ShowPackets.is c.show_packets_document.ensures
+
 pub returns-in-Run : goal.returns-in-Run
 returns-in-Run g c = rw c.in-Run.is c.run_document.ensures
 

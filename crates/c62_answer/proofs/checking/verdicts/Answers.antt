@@ -8,14 +8,15 @@ pub returns-in_err-program : goal.returns-in_err-program
 returns-in_err-program c =
     let p = err_from_is_err_and c.from_residual.result c.from_residual.ensures.1 in
     let parts = c.in-Some.parts in
-    rw (p.1, p.2) (no_text c.args.form c.args.input.now parts.text.now parts.listing.now c.in-Some.ensures
+    rw (p.1, p.2) (no_text c.args.isa c.args.form c.args.input.now parts.text.now parts.listing.now c.in-Some.ensures
     c.in_err-program.field-0.0 c.in_err-program.ensures)
 
 pub returns-in_err-packets : goal.returns-in_err-packets
 returns-in_err-packets c =
     let p = err_from_is_err_and c.from_residual-in_err-packets.result c.from_residual-in_err-packets.ensures.1 in
     let parts = c.in-Some.parts in
-    rw (p.1, p.2) (no_packets_part c.args.form c.args.input.now parts.text.now parts.listing.now c.in-Some.ensures
+    rw (p.1, p.2) (no_packets_part c.args.isa c.args.form c.args.input.now parts.text.now parts.listing.now
+    c.in-Some.ensures
     c.in_ok-program.program c.in_ok-program.ensures c.in_err-packets.field-0.0 c.in_err-packets.ensures)
 
 pub returns-in_default : goal.returns-in_default
@@ -27,7 +28,7 @@ returns c =
     let program = c.in_ok-program.program in
     let packets = c.in_ok-packets.packets in
     let answer = c.in_ok-checked.checked.text.items in
-    rw c.of_check.ensures (told c.args.form c.args.input.now answer c.in_ok-checked.checked.same (record {
+    rw c.of_check.ensures (told c.args.isa c.args.form c.args.input.now answer c.in_ok-checked.checked.same (record {
       text = parts.text.now;
       listing = parts.listing.now;
       parted = c.in-Some.ensures;

@@ -12,7 +12,7 @@ pub returns-in_err-program : goal.returns-in_err-program
 returns-in_err-program c =
     let p = err_from_is_err_and c.from_residual.result c.from_residual.ensures.1 in
     let parts = c.in-Some.parts in
-    rw (p.1, p.2) (no_text (map trips_of c.args.promises.now.trips.items) c.args.promises.now.apart.items
+    rw (p.1, p.2) (no_text c.args.isa (map trips_of c.args.promises.now.trips.items) c.args.promises.now.apart.items
     c.args.input.now parts.text.now parts.listing.now c.in-Some.ensures c.in_err-program.field-0.0
     c.in_err-program.ensures)
 
@@ -20,7 +20,7 @@ pub returns-in_err-read : goal.returns-in_err-read
 returns-in_err-read c =
     let p = err_from_is_err_and c.from_residual-in_err-read.result c.from_residual-in_err-read.ensures.1 in
     let parts = c.in-Some.parts in
-    rw (p.1, p.2) (no_rows (map trips_of c.args.promises.now.trips.items) c.args.promises.now.apart.items
+    rw (p.1, p.2) (no_rows c.args.isa (map trips_of c.args.promises.now.trips.items) c.args.promises.now.apart.items
     c.args.input.now parts.text.now parts.listing.now c.in-Some.ensures c.in_ok-program.program
     c.in_ok-program.ensures
     (sym (rw (c.blocks-2.ensures.same, c.deref.ensures.value) at c.in_default-first_loopless.ensures))
@@ -30,7 +30,8 @@ pub returns : goal.returns
 returns c =
     let parts = c.in-Some.parts in
     let checked = c.in_ok-checked.checked in
-    loops_told (map trips_of c.args.promises.now.trips.items) c.args.promises.now.apart.items c.args.input.now
+    loops_told c.args.isa
+    (map trips_of c.args.promises.now.trips.items) c.args.promises.now.apart.items c.args.input.now
     parts.text.now parts.listing.now checked.text.items c.in_ok-program.program c.in_ok-read.read checked.same
     checked.plain c.of_check.result c.in-Some.ensures c.in_ok-program.ensures
     (sym (rw (c.blocks-2.ensures.same, c.deref.ensures.value) at c.in_default-first_loopless.ensures))

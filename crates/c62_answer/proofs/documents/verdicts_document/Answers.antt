@@ -5,7 +5,7 @@ use Rattle.c62_answer.proofs.Documented.{checked_text, refused_too, verdicts_doc
 use Rattle.c62_answer.proofs.documents.verdicts_document.Goals as goal
 
 pub returns-in_default : goal.returns-in_default
-returns-in_default c = refused_too (Verdicts c.args.form) c.args.input.now c.unparted.result
+returns-in_default c = refused_too c.args.isa (Verdicts c.args.form) c.args.input.now c.unparted.result
     (c.unparted.ensures.by_block c.args.form)
 
 pub returns : goal.returns
@@ -16,7 +16,7 @@ returns c =
     let answer = c.in_ok-checked.checked.text.items in
     let same = c.in_ok-checked.checked.same in
     let told = checked_text program packets answer same c.in_ok-checked.ensures in
-    rw c.of_check.ensures (verdicts_documented c.args.form c.args.input.now told.0 answer same (record {
+    rw c.of_check.ensures (verdicts_documented c.args.isa c.args.form c.args.input.now told.0 answer same (record {
       text = parts.text.now;
       listing = parts.listing.now;
       parted = c.in-Some.ensures;

@@ -6,6 +6,7 @@ returns c = λ packing trips apart text is.
     let flight = c.args.flight.now in
     let looped = c.args.looped.now in
     rw c.breach.ensures
-    (loops_flown c.args.verbose packing trips apart flight.course flight.settings.items c.in_ok-told.told.items text
+    (loops_flown c.args.isa c.args.verbose packing trips apart flight.course flight.settings.items
+    c.in_ok-told.told.items text
     c.in_ok-reply.reply.text.items looped.program looped.written c.args.begun.now c.in_ok-reply.reply.outcome is
     c.in_ok-told.ensures c.requires (rw c.deref.ensures.value at c.in_ok-reply.ensures))

@@ -5,7 +5,8 @@ pub returns : goal.returns
 returns c = λ packing trips apart text is.
     let flight = c.args.flight.now in
     let looped = c.args.looped.now in
-    loops_documented c.args.verbose packing trips apart flight.course flight.settings.items c.in_ok-told.told text
+    loops_documented c.args.isa c.args.verbose packing trips apart flight.course flight.settings.items c.in_ok-told.told
+    text
     c.in_ok-reply.reply.text.items looped.program looped.written c.args.begun.now c.in_ok-reply.reply.outcome
     c.breach.result c.breach.ensures is
     c.in_ok-told.ensures c.requires (rw c.deref.ensures.value at c.in_ok-reply.ensures)

@@ -6,7 +6,7 @@ use Rattle.c62_answer.proofs.tool.run_telling.Goals as goal
 
 pub returns-in-Ok : goal.returns-in-Ok
 returns-in-Ok g c =
-    rw c.status.ensures (done (told_of c.tell_outcome.result) (map g.S.AsStr.text c.args.words.now)
+    rw c.status.ensures (done c.args.isa (told_of c.tell_outcome.result) (map g.S.AsStr.text c.args.words.now)
     (streams (g.R.Read.remaining c.args.reader.now) (g.W.Write.contents c.args.output.now)
     (g.E.Write.contents c.args.errors.now))
     (streams (g.R.Read.remaining c.run.new.reader) (g.W.Write.contents c.run.new.output)
@@ -15,7 +15,7 @@ returns-in-Ok g c =
 
 pub returns-in-Err : goal.returns-in-Err
 returns-in-Err g c =
-    rw c.status-in-Err.ensures (failed (told_of c.report.result) (map g.S.AsStr.text c.args.words.now)
+    rw c.status-in-Err.ensures (failed c.args.isa (told_of c.report.result) (map g.S.AsStr.text c.args.words.now)
     (streams (g.R.Read.remaining c.args.reader.now) (g.W.Write.contents c.args.output.now)
     (g.E.Write.contents c.args.errors.now))
     (streams (g.R.Read.remaining c.run.new.reader) (g.W.Write.contents c.run.new.output)

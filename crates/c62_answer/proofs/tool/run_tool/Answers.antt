@@ -7,7 +7,7 @@ use Rattle.c62_answer.proofs.tool.run_tool.Goals as goal
 pub returns : goal.returns
 returns g c =
     let ended = c.run_telling.result in
-    run_weaker (told_of ended.told) Tells (told_tells ended.told) (map g.S.AsStr.text c.args.words.now)
+    run_weaker c.args.isa (told_of ended.told) Tells (told_tells ended.told) (map g.S.AsStr.text c.args.words.now)
     (streams (g.R.Read.remaining c.args.reader.now) (g.W.Write.contents c.args.output.now)
     (g.E.Write.contents c.args.errors.now))
     (streams (g.R.Read.remaining c.run_telling.new.reader) (g.W.Write.contents c.run_telling.new.output)

@@ -10,12 +10,14 @@ use Rattle.c62_drawing.proofs.read.taken_in.Goals as goal
 pub returns-in-Ok : goal.returns-in-Ok
 returns-in-Ok c =
     IfOk-weaker c.code_in.result _ _
-    (λ found finds. taken_some c.args.name.now (Some c.args.name.now) c.args.text.now c.in-Ok.taken.items found
+    (λ found finds. taken_some c.args.isa c.args.name.now
+    (Some c.args.name.now) c.args.text.now c.in-Ok.taken.items found
     c.in-Ok.ensures finds)
-    (subst (λ (text : List ℕ). IfOk c.code_in.result (FindsCode (Some c.args.name.now) text)) c.deref.ensures.value
+    (subst (λ (text : List ℕ). IfOk c.code_in.result (FindsCode c.args.isa (Some c.args.name.now) text))
+    c.deref.ensures.value
     c.code_in.ensures)
 
 pub returns-in-Err-From : goal.returns-in-Err-From
-returns-in-Err-From c = taken_none c.args.name.now (Some c.args.name.now) c.args.text.now
-    (subst (λ (fault : ReachFault). Lacks c.args.name.now c.args.text.now fault) c.in-Err-From.field-0-is
+returns-in-Err-From c = taken_none c.args.isa c.args.name.now (Some c.args.name.now) c.args.text.now
+    (subst (λ (fault : ReachFault). Lacks c.args.isa c.args.name.now c.args.text.now fault) c.in-Err-From.field-0-is
     c.in-Err-From.ensures)

@@ -6,4 +6,4 @@ use Rattle.c62_explain.proofs.placed.all_placed.Given as goal
 abbrev pub invariant-loop-fault : goal.invariant-loop-fault
 invariant-loop-fault l =
     (map (λ placed. placed.fault) l.all.items ++ drop l.fault-index l.faults ≡ l.faults)
-    × All (IsPlaced l.text) l.all.items
+    × All (IsPlaced l.isa l.text) l.all.items

@@ -2,4 +2,5 @@ use Rattle.c62_explain_packets.proofs.RemarkLemmas.{lints_packets}
 use Rattle.c62_explain_packets.proofs.linted.lint_packets.Goals as goal
 
 pub returns-clause-linted : goal.returns-clause-linted
-returns-clause-linted c = lints_packets _ _ _ _ c.in_ok-remarks.remarks c.in_ok-remarks.ensures c.in_ok-lines.ensures
+returns-clause-linted c =
+    lints_packets c.args.isa _ _ _ _ c.in_ok-remarks.remarks c.in_ok-remarks.ensures c.in_ok-lines.ensures

@@ -11,7 +11,8 @@ has_no_unit-requires c = search rules
 
 pub returns-then-not-is_bad_condition : goal.returns-then-not-is_bad_condition
 returns-then-not-is_bad_condition c = λ some.
-    faultless_of c.args.op c.args.operands c.args.cond c.args.unit c.is_bad_condition.result c.has_no_unit.result
+    faultless_of c.args.set c.args.op c.args.operands c.args.cond c.args.unit c.is_bad_condition.result
+    c.has_no_unit.result
     c.is_bad_condition.ensures
     c.has_no_unit.ensures c.if-not-is_bad_condition.true some
 

@@ -4,5 +4,5 @@ use Rattle.c62_line.proofs.line.does.Goals as goal
 
 pub returns-in-Ok-clause-says : goal.returns-in-Ok-clause-says
 returns-in-Ok-clause-says c =
-    sym (made_says c.in-Ok.insn c.args.read.0 c.args.read.1 c.args.cond c.args.written c.in-Ok.ensures.fault
+    sym (made_says c.args.isa c.in-Ok.insn c.args.read.0 c.args.read.1 c.args.cond c.args.written c.in-Ok.ensures.fault
     c.in-Ok.ensures.parts)

@@ -7,11 +7,11 @@ pub returns-then-text-gt-MOST_BYTES : goal.returns-then-text-gt-MOST_BYTES
 returns-then-text-gt-MOST_BYTES c =
     let held : map refusal_of c.push.new.self.items ≡ (0, TextTooLong) ∷ [] =
     grind (arith, c.new-faults.ensures.items, c.at.ensures, c.in_ok-push.ensures.items) in
-    held ∙ sym (too_long _ _ (omega (arith, c.if-text-gt-MOST_BYTES.true)) c.requires)
+    held ∙ sym (too_long c.args.isa _ _ (omega (arith, c.if-text-gt-MOST_BYTES.true)) c.requires)
 
 pub returns : goal.returns
 returns c =
     let same : c.deref.result.now ≡ labels_of (lines_of c.args.text.now) = c.deref.ensures.value
     ∙ c.in_ok-labels.ensures in
-    rw (faults_are c.args.text.now c.deref.result.now (omega (arith, c.if-text-gt-MOST_BYTES.false)) same) at
+    rw (faults_are c.args.isa c.args.text.now c.deref.result.now (omega (arith, c.if-text-gt-MOST_BYTES.false)) same) at
     c.line_faults.ensures

@@ -10,7 +10,8 @@ loop-line-preserved c =
     let less : length c.loop-line.faults.items < c.args.most = grind
     (arith, nat_tests, c.len.ensures, c.if-len-most.false) in
     record {
-      so_far = faults_more _ _ _ _ _ _ _ _ _ _ c.in-Some.ensures.found found.fault found.made c.in_ok-push_fault.ensures
+      so_far = faults_more c.args.isa _ _ _ _ _ _ _ _ _ _ c.in-Some.ensures.found found.fault found.made
+          c.in_ok-push_fault.ensures
           ∙ kept.so_far;
       few = omega (arith, less, few_more _ _ _ _ c.in_ok-push_fault.ensures);
       counted = omega (arith, c.in-Some.ensures.shorter, kept.counted);

@@ -5,8 +5,8 @@ use Rattle.c62_lint.proofs.faults.line_faults.Given as goal
 
 abbrev pub invariant-loop-line : goal.invariant-loop-line
 invariant-loop-line l = record {
-  so_far : map refusal_of l.faults.items ++ walked_faults l.labels l.number (lines_of l.rest) (drafts_of l.reader)
-      ≡ walked_faults l.labels 1 (lines_of l.text) no_drafts;
+  so_far : map refusal_of l.faults.items ++ walked_faults l.isa l.labels l.number (lines_of l.rest) (drafts_of l.reader)
+      ≡ walked_faults l.isa l.labels 1 (lines_of l.text) no_drafts;
   few : length l.faults.items ≤ l.most;
   counted : l.number + length l.rest ≤ length l.text + 1;
 }

@@ -7,5 +7,5 @@ use Rattle.c62_listing_reader.proofs.judge.has_text.Goals as goal
 pub returns-in-Ok : goal.returns-in-Ok
 returns-in-Ok c =
     let reading = c.in-Ok.field-0 in
-    sym (line_allowed c.args.front c.args.line.now reading.label (said_of reading.what) c.requires.front
+    sym (line_allowed c.args.isa c.args.front c.args.line.now reading.label (said_of reading.what) c.requires.front
     (sym c.requires.read ∙ ap read_as c.in-Ok.is))

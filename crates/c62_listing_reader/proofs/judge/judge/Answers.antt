@@ -15,14 +15,15 @@ use Rattle.c62_listing_reader.specs.Faults.{is_misplaced, line_says}
 use Rattle.c62_listing_reader.specs.Reading.{drafts_of, line_saying, rest_saying}
 use Rattle.c62_listing_reader.proofs.judge.judge.Goals as goal
 use Rattle.c62_line.specs.declared.limits.TheConstants.{MOST_LINE}
+use Rattle.c62_op.specs.declared.set.InstructionSet.{InstructionSet}
 
 -- where the bytes, the length and the beginning are right, the rest decides
-rest_decides : (names : Names) (drafts : Drafts) (above : Above) (cut : Cut) (front : Front)
+rest_decides : (isa : InstructionSet) (names : Names) (drafts : Drafts) (above : Above) (cut : Cut) (front : Front)
     → front ≡ front_of (content (line_cut cut)) → list_all is_allowed (content (line_cut cut)) ≡ true
     → nat_lt MOST_LINE (length (content (line_cut cut))) ≡ false → is_misplaced front above ≡ false
-    → line_saying names drafts above cut ≡ rest_saying names drafts above cut front
+    → line_saying isa names drafts above cut ≡ rest_saying isa names drafts above cut front
 unfolding line_says
-rest_decides names drafts above cut front is allowed short placed = rw (← is, allowed, short, placed) refl
+rest_decides isa names drafts above cut front is allowed short placed = rw (← is, allowed, short, placed) refl
 
 pub returns-clause-judged : goal.returns-clause-judged
 returns-clause-judged c =
@@ -33,5 +34,6 @@ returns-clause-judged c =
     let short = rw c.content-line.ensures at
     (le-ltb MOST_LINE (length c.content-line.result.now) c.if-line-gt-MOST_LINE.false) in
     let placed = sym c.is_misplaced.ensures ∙ c.if-is_misplaced.false in
-    rw (rest_decides names drafts c.args.above c.args.cut.now c.args.front c.requires.front allowed short placed)
+    rw (rest_decides c.args.isa names drafts c.args.above c.args.cut.now c.args.front c.requires.front allowed short
+    placed)
     c.with_rest.ensures.judged

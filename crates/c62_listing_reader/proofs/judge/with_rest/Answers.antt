@@ -12,8 +12,10 @@ returns-then-is_label_taken-clause-judged c =
     let drafts = drafts_of c.args.blocks.now in
     let rest = rest_of c.args.front (content (line_cut c.args.cut.now)) in
     let reading = c.in-Ok.reading in
-    let read : line_of rest ≡ Ok (reading.label, said_of reading.what) = sym c.requires ∙ ap read_as c.in-Ok.is in
-    let says = rest_read drafts rest reading.label (said_of reading.what) true read (sym c.is_label_taken.ensures
+    let read : line_of c.args.isa rest ≡ Ok (reading.label, said_of reading.what) =
+    sym c.requires ∙ ap read_as c.in-Ok.is in
+    let says = rest_read c.args.isa drafts rest reading.label (said_of reading.what) true read
+    (sym c.is_label_taken.ensures
     ∙ c.if-is_label_taken.true) in
     inr (rw says refl)
 
@@ -22,7 +24,9 @@ returns-else-is_label_taken-clause-judged c =
     let drafts = drafts_of c.args.blocks.now in
     let rest = rest_of c.args.front (content (line_cut c.args.cut.now)) in
     let reading = c.in-Ok.reading in
-    let read : line_of rest ≡ Ok (reading.label, said_of reading.what) = sym c.requires ∙ ap read_as c.in-Ok.is in
-    let says = rest_read drafts rest reading.label (said_of reading.what) false read (sym c.is_label_taken.ensures
+    let read : line_of c.args.isa rest ≡ Ok (reading.label, said_of reading.what) =
+    sym c.requires ∙ ap read_as c.in-Ok.is in
+    let says = rest_read c.args.isa drafts rest reading.label (said_of reading.what) false read
+    (sym c.is_label_taken.ensures
     ∙ c.if-is_label_taken.false) in
     rw (c.in-Ok.is, says) c.with_reading.ensures

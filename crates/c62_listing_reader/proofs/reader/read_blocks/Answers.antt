@@ -17,11 +17,11 @@ returns-in-Err c =
     let aim = aim_by names in
     let lines = lines_in c.loop-cut.rest.now in
     let drafts = drafts_of c.loop-cut.blocks in
-    c.fault_of_line.ensures (read_lines labels aim 1 no_drafts Start (lines_in c.args.names.now.text.now))
+    c.fault_of_line.ensures (read_lines c.args.isa labels aim 1 no_drafts Start (lines_in c.args.names.now.text.now))
     (elim c.in-Err.ensures.judged [
       | inl memory ↦ inl memory
       | inr says ↦ inr (sym c.loop-cut.invariant.lines
-          ∙ stops labels aim c.loop-cut.number (line_cut c.in-Some.cut)
+          ∙ stops c.args.isa labels aim c.loop-cut.number (line_cut c.in-Some.cut)
           (lines_in c.in-Some.cut.rest.now) lines drafts c.loop-cut.above c.in-Err.fault c.in-Some.ensures.found says)
     ])
 
@@ -31,7 +31,8 @@ add-requires c =
     let line = line_cut c.in-Some.cut in
     let said = said_by front c.in-Ok-read.reading in
     let judged = rw c.in-Ok-read.is at c.in-Ok.ensures.judged in
-    let is = told (labels_of (entries_of c.args.names.now)) (drafts_of c.loop-cut.blocks) c.loop-cut.above line
+    let is = told c.args.isa (labels_of (entries_of c.args.names.now))
+    (drafts_of c.loop-cut.blocks) c.loop-cut.above line
     (lines_in c.in-Some.cut.rest.now) said judged in
     record { unit = has_unit (content line) front said.label said.says is.spelled; short = is.short }
 
@@ -47,13 +48,13 @@ loop-cut-preserved c =
     let below = lines_in c.in-Some.cut.rest.now in
     let said = said_by c.beginning-front.result c.in-Ok-read.reading in
     let judged = rw c.in-Ok-read.is at c.in-Ok.ensures.judged in
-    let is = told labels drafts above line below said judged in
+    let is = told c.args.isa labels drafts above line below said judged in
     record {
       lines = rw (c.in_ok-add.ensures, c.above_next-above.ensures)
-          (goes_on labels aim number line below
+          (goes_on c.args.isa labels aim number line below
           (lines_in c.loop-cut.rest.now) drafts above said c.in-Some.ensures.found judged ∙ c.loop-cut.invariant.lines);
       going = rw (c.in_ok-add.ensures, c.above_next-above.ensures)
-          (go labels aim number said drafts above line below c.loop-cut.invariant.going is);
+          (go c.args.isa labels aim number said drafts above line below c.loop-cut.invariant.going is);
       bound = omega (arith, c.in-Some.ensures.shorter, c.loop-cut.invariant.bound);
     }
 
@@ -62,7 +63,7 @@ returns c =
     let names = entries_of c.args.names.now in
     let drafts = drafts_of c.loop-cut.blocks in (
       sym c.loop-cut.invariant.lines
-          ∙ is_done (labels_of names) (aim_by names) c.loop-cut.number
+          ∙ is_done c.args.isa (labels_of names) (aim_by names) c.loop-cut.number
           (lines_in c.loop-cut.rest.now) drafts c.loop-cut.above c.in_default.ensures.found,
       all-fine drafts c.loop-cut.above c.loop-cut.invariant.going,
       c.loop-cut.invariant.going.few,

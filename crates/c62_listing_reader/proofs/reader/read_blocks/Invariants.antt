@@ -9,9 +9,9 @@ use Rattle.c62_listing_reader.proofs.reader.read_blocks.Given as goal
 
 abbrev pub invariant-loop-cut : goal.invariant-loop-cut
 invariant-loop-cut l = record {
-  lines : read_lines (labels_of (entries_of l.names)) (aim_by (entries_of l.names)) l.number (drafts_of l.blocks)
+  lines : read_lines l.isa (labels_of (entries_of l.names)) (aim_by (entries_of l.names)) l.number (drafts_of l.blocks)
       l.above (lines_in l.rest)
-      ≡ read_lines (labels_of (entries_of l.names)) (aim_by (entries_of l.names)) 1 no_drafts Start
+      ≡ read_lines l.isa (labels_of (entries_of l.names)) (aim_by (entries_of l.names)) 1 no_drafts Start
       (lines_in l.names.text.now);
   going : IsGoing (drafts_of l.blocks) l.above;
   bound : l.number + length l.rest ≤ length l.names.text.now + 1;

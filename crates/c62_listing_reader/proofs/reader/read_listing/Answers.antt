@@ -10,10 +10,11 @@ pub returns : goal.returns
 returns c =
     let text = c.args.text.now in
     let drafts = drafts_of c.in_ok-blocks.blocks in
-    let said = of_lines text (Ok drafts) c.if-text-gt-MOST_BYTES.false
+    let said = of_lines c.args.isa text (Ok drafts) c.if-text-gt-MOST_BYTES.false
     (rw c.in_ok-names.ensures at c.in_ok-blocks.ensures.0) in
     let done : map draft_open c.end_block.new.self.done.items ≡ all_drafts drafts = ap (λ (d : Drafts). d.done)
     c.in_ok-end_block.ensures in
-    let read = of_blocks text drafts (map draft_open c.end_block.new.self.done.items) c.packets_of.result said done
+    let read = of_blocks c.args.isa text drafts
+    (map draft_open c.end_block.new.self.done.items) c.packets_of.result said done
     c.packets_of.ensures in
-    record { read = read; closed = closed_if text c.packets_of.result read }
+    record { read = read; closed = closed_if c.args.isa text c.packets_of.result read }

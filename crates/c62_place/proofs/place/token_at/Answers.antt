@@ -1,4 +1,4 @@
-use Rattle.c62_token.proofs.Common.{◌≡◌, ◌+◌, ◌-◌, arith, nat_tests, length}
+use Rattle.c62_token.proofs.Common.{◌≡◌, ◌+◌, ◌-◌, arith, nat_tests}
 use Rattle.std.proofs.lemmas.List.{length-drop, take_rest}
 use Rattle.c62_place.proofs.PlaceLemmas.{token_next, token_none}
 use Rattle.c62_place.proofs.place.token_at.Goals as goal

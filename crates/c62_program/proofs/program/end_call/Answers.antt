@@ -7,5 +7,5 @@ returns-in-Ok g c = Did c.in-Ok.ensures.ok
 
 pub returns-in-Err : goal.returns-in-Err
 returns-in-Err g c =
-    ends_failed _ _ c.args.call.now c.in-Err.trouble _ _ _ _ c.in-Err.ensures.why c.give_up.ensures.status
+    ends_failed c.args.isa _ _ c.args.call.now c.in-Err.trouble _ _ _ _ c.in-Err.ensures.why c.give_up.ensures.status
     c.in-Err.ensures.silent c.give_up.ensures.said c.in-Err.ensures.err c.in-Err.ensures.kept

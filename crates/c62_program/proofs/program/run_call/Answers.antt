@@ -33,7 +33,8 @@ returns-clause-ok g c =
     let count : c.len.result ≡ length c.args.call.now.dumps.items = c.len.ensures ∙ c.args.call.now.dumps.ok.0 in
     let many : 1 ≤ length c.args.call.now.dumps.items = search rules in
     IfOk-weaker c.run_dumping.result _ _
-    (λ status run. called_dumping _ _ c.args.call.now _ _ _ _ status (rw c.deref.ensures.value at c.in-Ok.ensures.ok)
+    (λ status run. called_dumping c.args.isa _ _ c.args.call.now _ _ _ _ status
+    (rw c.deref.ensures.value at c.in-Ok.ensures.ok)
     many
     (rw (count, c.deref-2.ensures.value) at c.in_ok-counts.ensures.ok) run)
     (rw (c.deref-in-len1-up.ensures.value, c.deref-in-len1-up-2.ensures.value) at c.run_dumping.ensures.ok)

@@ -11,7 +11,7 @@ returns-in-None-clause-why g c = rw c.in-None.is c.run_words.ensures.why
 pub returns-in-Some-clause-ok : goal.returns-in-Some-clause-ok
 returns-in-Some-clause-ok g c =
     rw c.in-Some.is
-    (IfOk-weaker c.run_to.result _ _ (λ status run. target_to _ _ _ _ c.in-Some.target _ _ _ _ _ status run)
+    (IfOk-weaker c.run_to.result _ _ (λ status run. target_to c.args.isa _ _ _ _ c.in-Some.target _ _ _ _ _ status run)
     c.run_to.ensures.ok)
 
 pub returns-in-Some-clause-why : goal.returns-in-Some-clause-why

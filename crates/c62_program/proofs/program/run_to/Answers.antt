@@ -7,12 +7,12 @@ use Rattle.c62_program.proofs.program.run_to.Goals as goal
 pub returns-then-not-is_made-clause-ok : goal.returns-then-not-is_made-clause-ok
 returns-then-not-is_made-clause-ok g c =
     let none : is_made (map string_bytes c.args.words.now) c.in_ok-status.status ≡ false = search rules in
-    made_none _ _ _ _ _ _ _ _ _ _ none (rw c.new-answer.ensures.items at c.in_ok-status.ensures.ok)
+    made_none c.args.isa _ _ _ _ _ _ _ _ _ _ none (rw c.new-answer.ensures.items at c.in_ok-status.ensures.ok)
 
 pub returns-in-Ok-clause-ok : goal.returns-in-Ok-clause-ok
 returns-in-Ok-clause-ok g c =
     let one : is_made (map string_bytes c.args.words.now) c.in_ok-status.status ≡ true = search rules in
-    made_one _ _ _ _ _ _ _ _ _ _ _ one (rw c.deref.ensures.value at c.in-Ok.ensures.ok)
+    made_one c.args.isa _ _ _ _ _ _ _ _ _ _ _ one (rw c.deref.ensures.value at c.in-Ok.ensures.ok)
     (rw c.new-answer.ensures.items at c.in_ok-status.ensures.ok)
 
 pub returns-clause-silent : goal.returns-clause-silent

@@ -6,7 +6,7 @@ use Rattle.c62_program.proofs.teaching.run_on.Goals as goal
 pub returns : goal.returns
 returns g c = (
   Some c.run_tool-status.new.reader.now,
-  ran_more c.write_whole.result _ (behind_text c.args.told.now.refused.items
+  ran_more c.args.isa c.write_whole.result _ (behind_text c.args.told.now.refused.items
       c.args.told.now.apart.lines.items c.args.told.now.faulted.items) _ _ _ _ _ _
       c.run_tool-status.ensures (rw c.behind.ensures at c.write_whole.ensures),
 )

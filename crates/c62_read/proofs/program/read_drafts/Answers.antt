@@ -9,9 +9,9 @@ pub loop-line-preserved : goal.loop-line-preserved
 loop-line-preserved c =
     let added = rw c.in-None.is at c.in_ok-add_line.ensures.said in
     record {
-      so_far = stepped _ _ _ _ _ c.in-Some.ensures.found _ _ _ c.in_ok-add_line.ensures.asked _ added
+      so_far = stepped c.args.isa _ _ _ _ _ c.in-Some.ensures.found _ _ _ c.in_ok-add_line.ensures.asked _ added
           ∙ c.loop-line.invariant.so_far;
-      labels = labels_stay _ _ _ _ _ c.in-Some.ensures.found _ added ∙ c.loop-line.invariant.labels;
+      labels = labels_stay c.args.isa _ _ _ _ _ c.in-Some.ensures.found _ added ∙ c.loop-line.invariant.labels;
       counted = omega (arith, c.in-Some.ensures.shorter, c.loop-line.invariant.counted);
     }
 
@@ -26,7 +26,8 @@ returns-in-Some-2-clause-err c =
     ∙ c.loop-line.invariant.labels in
     let found : c.first_missed-missed.result ≡ first_line (missed labels (map asked_of c.add_line.new.jumps.items)) =
     rw known at c.first_missed-missed.ensures in
-    let here = stepped _ _ _ _ _ c.in-Some.ensures.found labels _ _ c.in_ok-add_line.ensures.asked _ refused in
+    let here = stepped c.args.isa _ _ _ _ _ c.in-Some.ensures.found labels _ _ c.in_ok-add_line.ensures.asked _ refused
+    in
     inr (sym c.loop-line.invariant.so_far ∙ sym here ∙ rw (← found) (sym c.earlier.ensures))
 
 pub returns-in-None-first_missed-clause-ok : goal.returns-in-None-first_missed-clause-ok
@@ -37,8 +38,9 @@ returns-in-None-first_missed-clause-ok c =
     sym c.loop-line.invariant.so_far ∙ rw (none, c.in_default.ensures.found) refl
 
 pub returns-in-None-first_missed-clause-few : goal.returns-in-None-first_missed-clause-few
-returns-in-None-first_missed-clause-few c = ((walk_text _).1 _ (returns-in-None-first_missed-clause-ok c)).few
+returns-in-None-first_missed-clause-few c =
+    ((walk_text c.args.isa _).1 _ (returns-in-None-first_missed-clause-ok c)).few
 
 pub returns-in-None-first_missed-clause-whole : goal.returns-in-None-first_missed-clause-whole
-returns-in-None-first_missed-clause-whole c = whole_blocks _ _ _
-    ((walk_text _).1 _ (returns-in-None-first_missed-clause-ok c))
+returns-in-None-first_missed-clause-whole c = whole_blocks c.args.isa _ _ _
+    ((walk_text c.args.isa _).1 _ (returns-in-None-first_missed-clause-ok c))

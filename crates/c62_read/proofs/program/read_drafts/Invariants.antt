@@ -8,7 +8,8 @@ use Rattle.c62_read.proofs.program.read_drafts.Given as goal
 abbrev pub invariant-loop-line : goal.invariant-loop-line
 invariant-loop-line l = record {
   so_far : unless_missed (first_line (missed (labels_of (lines_of l.text)) (map asked_of l.jumps.items)))
-      (add_lines (labels_of (lines_of l.text)) l.number (lines_of l.rest) (drafts_of l.reader)) ≡ text_read l.text;
+      (add_lines l.isa (labels_of (lines_of l.text)) l.number (lines_of l.rest) (drafts_of l.reader))
+      ≡ text_read l.isa l.text;
   labels : own_labels (all_drafts (drafts_of l.reader)) ++ labels_of (lines_of l.rest) ≡ labels_of (lines_of l.text);
   counted : l.number + length l.rest ≤ length l.text + 1;
 }

@@ -4,7 +4,7 @@ use Rattle.c62_rows.proofs.ReadLemmas.{IsReadSoFar}
 use Rattle.c62_rows.proofs.text.read_lines.Given as goal
 
 abbrev pub invariant-loop-line : goal.invariant-loop-line
-invariant-loop-line l = IsReadSoFar (reading_of l.reader) l.number l.rest l.text
+invariant-loop-line l = IsReadSoFar l.isa (reading_of l.reader) l.number l.rest l.text
 
 abbrev pub decreases-loop-line : goal.decreases-loop-line
 decreases-loop-line l = length l.rest

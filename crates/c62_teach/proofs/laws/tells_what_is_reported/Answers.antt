@@ -2,13 +2,13 @@ use Rattle.c62_teach.proofs.Reported.{flight_lines, packet_lines, strict_lines}
 use Rattle.c62_teach.proofs.laws.tells_what_is_reported.Goals as goal
 
 pub returns-clause-serial : goal.returns-clause-serial
-returns-clause-serial c = λ settings course outcome text answer more strict tells report.
-    strict_lines report.program settings course text more report.reported.opening report.reported.final
+returns-clause-serial c = λ isa settings course outcome text answer more strict tells report.
+    strict_lines isa report.program settings course text more report.reported.opening report.reported.final
     report.reported.chain strict tells report.says report.reported.begin report.reported.run
 
 pub returns-clause-packed : goal.returns-clause-packed
-returns-clause-packed c = λ packing settings course outcome text answer more strict tells report.
-    strict_lines report.program settings course text more report.reported.reported.opening
+returns-clause-packed c = λ isa packing settings course outcome text answer more strict tells report.
+    strict_lines isa report.program settings course text more report.reported.reported.opening
     report.reported.reported.final report.reported.reported.chain strict tells report.says
     report.reported.reported.begin report.reported.serial
 

@@ -15,7 +15,7 @@ near : (insn : Insn) (operands : Operands) (register base : Reg) (form : Address
     (m n : ℕ)
     → operands ≡ operands_of insn → operands ≡ Access register base form offset → offset ≡ ByConstant k
     → FitsSigned w64 k
-    → m ≡ unsigned_abs (to_z w64 (of_z w64 k)) → n ≡ size_of (op_of insn) → m * n ≤ 124
+    → m ≡ unsigned_abs (to_z w64 (of_z w64 k)) → n ≡ size_of (op_of insn) → m * n ≤ 131068
 near insn operands register base form offset k m n of_insn is constant fits m_is n_is =
     let e : operands_of insn ≡ Access register base form (ByConstant k)
     = sym of_insn ∙ is ∙ ap (λ (o : Offset). Access register base form o) constant in
