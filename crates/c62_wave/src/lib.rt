@@ -6,8 +6,6 @@ mod dump;
 mod header;
 pub mod laws;
 mod signals;
-#[cfg(test)]
-mod tests;
 mod value;
 mod wave;
 
