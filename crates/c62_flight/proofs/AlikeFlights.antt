@@ -1,74 +1,43 @@
 -- Where branches go that are the same but for the numbers of labels, and what is in flight.
-use Rattle.std.proofs.Common.{◌≡◌, ℕ, zero, suc, ◌+◌, Bool, true, false, ◌&&◌, ◌||◌, cond, eqb, ltb, List, [], ◌∷◌}
-use Rattle.std.proofs.Common.{length, Option, Some, None, refl, sym, ◌∙◌, ap, subst, inl, inr}
-use Rattle.std.specs.Prelude.{◌==◌, ◌↔◌, is_some, option_map, filter, find, nat_le}
+use Rattle.std.proofs.Common.{◌≡◌, ℕ, zero, suc, ◌+◌, true, cond, List, [], ◌∷◌}
+use Rattle.std.proofs.Common.{length, Option, refl, sym, ◌∙◌, ap, subst, inl, inr}
+use Rattle.std.specs.Prelude.{◌↔◌, is_some, option_map, filter, find}
 use Rattle.std.specs.List.{list_any}
 use Rattle.std.specs.Option.{option_or}
 use Rattle.c62_op.specs.declared.register.Reg.{Reg}
 use Rattle.c62_insn.specs.declared.effect.Target.{Target}
-use Rattle.c62_insn.specs.declared.effect.Target.TheVariants.{Block as ToBlock, Register as ToRegister}
 use Rattle.c62_serial.specs.Effect.{is_fault}
 use Rattle.c62_packet.specs.declared.placed.Placed.{Placed}
-use Rattle.c62_packet.specs.Clash.{is_landing}
 use Rattle.c62_meaning.specs.Packet.{Did}
 use Rattle.c62_meaning.specs.Meaning.{HasFaulted}
 use Rattle.c62_meaning.proofs.Lookup.{In, In_from_Contains, Contains_from_In}
 use Rattle.c62_flight.specs.declared.stop.Stop.{Stop}
-use Rattle.c62_flight.specs.declared.stop.Stop.TheVariants.{End, Clash, Limit}
-use Rattle.c62_flight.specs.Text.{Text, Position, At, Outside, row_of, address_of, row_at, leads_to, position_after}
+use Rattle.c62_flight.specs.declared.stop.Stop.TheVariants.{Clash}
+use Rattle.c62_flight.specs.Text.{Text, Position, row_of, position_after}
 use Rattle.c62_flight.specs.Issued.{Visit, Issued, first_of, goes_in, turn, over, over_of, is_in_flight}
 use Rattle.c62_flight.specs.Broken.{has_branched, two_branches, lands_in, met_by, clash, broken}
 use Rattle.c62_flight.specs.Flight.{ended, Leads, Stops}
 use Rattle.c62_flight.specs.Numbered.{IsSameText}
 use Rattle.c62_flight.proofs.Lists.{first_of-same}
 use Rattle.c62_flight.proofs.AlikeActs.{TargetAlike, Alike, AllAlike, DoAlike}
+use Rattle.std.proofs.lemmas.Bool.Decides.{nat_tests}
+use Rattle.std.proofs.Common.{arith}
 
 module _ (text other : Text) where
   -- ---- branches
 
-  if_alike : (b : Bool) (a c : Option Target) → TargetAlike text other a c
-      → TargetAlike text other (cond b a None) (cond b c None)
-  if_alike true a c h = h
-  if_alike false a c h = tt
-
-  or_alike : (a b x y : Option Target) → TargetAlike text other a b → TargetAlike text other x y
-      → TargetAlike text other (option_or a x) (option_or b y)
-  or_alike None None x y h k = k
-  or_alike None (Some t) x y h k = absurd h
-  or_alike (Some (ToBlock n)) None x y h k = absurd h
-  or_alike (Some (ToRegister w)) None x y h k = absurd h
-  or_alike (Some t) (Some u) x y h k = h
-
   some_alike : (a b : Option Target) → TargetAlike text other a b → is_some a ≡ is_some b
-  some_alike None None h = refl
-  some_alike None (Some t) h = absurd h
-  some_alike (Some (ToBlock n)) None h = absurd h
-  some_alike (Some (ToRegister w)) None h = absurd h
-  some_alike (Some t) (Some u) h = refl
+  some_alike a b h = grind arith
 
   stands_alike : length text.rows ≡ length other.rows → (row : ℕ) (a b : Option Target) → TargetAlike text other a b
       → position_after text row a ≡ position_after other row b
-  stands_alike count row None None h = refl
-  stands_alike count row None (Some t) h = absurd h
-  stands_alike count row (Some (ToBlock n)) None h = absurd h
-  stands_alike count row (Some (ToRegister w)) None h = absurd h
-  stands_alike count row (Some (ToBlock n)) (Some (ToBlock m)) h = ap At h
-  stands_alike count row (Some (ToBlock n)) (Some (ToRegister v)) h = absurd h
-  stands_alike count row (Some (ToRegister w)) (Some (ToBlock m)) h = absurd h
-  stands_alike count row (Some (ToRegister w)) (Some (ToRegister v)) h =
-      ap (λ u. leads_to text (ToRegister u)) h
-      ∙ ap (λ n. cond ((address_of (row_at v) == v) && nat_le (row_at v) n) (At (row_at v)) (Outside v)) count
+  stands_alike count row a b h = grind arith
 
   module _ (did did' : Did) (acts : DoAlike text other did did') where
     turn_alike : (c : ℕ) (ps qs : List Placed) → AllAlike text other ps qs
         → TargetAlike text other (first_of (goes_in did c) ps) (first_of (goes_in did' c) qs)
-    turn_alike c [] [] h = tt
-    turn_alike c [] (q ∷ qs) h = absurd h
-    turn_alike c (p ∷ ps) [] h = absurd h
-    turn_alike c (p ∷ ps) (q ∷ qs) h =
-        or_alike (goes_in did c p) (goes_in did' c q) (first_of (goes_in did c) ps) (first_of (goes_in did' c) qs)
-        (subst (λ n. TargetAlike text other (goes_in did c p) (cond (eqb (n + 6) c) (did' q).target None)) h.0.cycle
-        (if_alike (eqb (p.cycle + 6) c) (did p).target (did' q).target (acts p q h.0).target)) (turn_alike c ps qs h.1)
+    turn_alike c [] qs h = grind arith
+    turn_alike c (p ∷ ps) qs h = grind (arith, turn_alike c ps)
 
     over_alike : (ps qs : List Placed) → AllAlike text other ps qs → (start idle : ℕ)
         → over (record { placed = ps; did = did }) start idle ≡ over (record { placed = qs; did = did' }) start idle
@@ -80,72 +49,26 @@ module _ (text other : Text) where
         ∙ ap (λ n. cond (is_some (turn (record { placed = qs; did = did' }) (start + 1))) (start + 1) n)
         (over_alike ps qs h (start + 1) idle)
 
-    flying_alike : (c : ℕ) (p q : Placed) → Alike text other p q → is_in_flight did c p ≡ is_in_flight did' c q
-    flying_alike c p q a =
-        ap (λ n. is_some (did p).target && (ltb n c && ltb c (n + 6))) a.cycle
-        ∙ ap (λ b. b && (ltb q.cycle c && ltb c (q.cycle + 6)))
-        (some_alike (did p).target (did' q).target (acts p q a).target)
-
     any_alike : (c : ℕ) (ps qs : List Placed) → AllAlike text other ps qs
         → list_any (is_in_flight did c) ps ≡ list_any (is_in_flight did' c) qs
-    any_alike c [] [] h = refl
-    any_alike c [] (q ∷ qs) h = absurd h
-    any_alike c (p ∷ ps) [] h = absurd h
-    any_alike c (p ∷ ps) (q ∷ qs) h =
-        ap (λ b. b || list_any (is_in_flight did c) ps) (flying_alike c p q h.0)
-        ∙ ap (λ b. is_in_flight did' c q || b) (any_alike c ps qs h.1)
+    any_alike c [] qs h = grind arith
+    any_alike c (p ∷ ps) qs h = grind (arith, any_alike c ps)
 
     ended_alike : (limit : ℕ) (ps qs : List Placed) → AllAlike text other ps qs → length text.rows ≡ length other.rows
         → (position : Position) (c : ℕ)
         → ended text limit (record { placed = ps; did = did }) position c ≡ ended other limit
         (record { placed = qs; did = did' }) position c
-    ended_alike limit ps qs h count (Outside word) c = refl
-    ended_alike limit ps qs h count (At row) c =
-        ap (λ n. cond (ltb row n || list_any (is_in_flight did c) ps) (cond (nat_le limit c) (Some Limit) None)
-        (Some End)) count
-        ∙ ap (λ (b : Bool). cond (ltb row (length other.rows) || b) (cond (nat_le limit c) (Some Limit) None)
-        (Some End)) (any_alike c ps qs h)
+    ended_alike limit ps qs h count position c = grind (arith, any_alike)
 
     -- ---- broken cycles
 
-    branched_alike : (c : ℕ) (p q : Placed) → Alike text other p q → has_branched did c p ≡ has_branched did' c q
-    branched_alike c p q a =
-        ap (λ n. eqb n c && is_some (did p).target) a.cycle
-        ∙ ap (λ b. eqb q.cycle c && b) (some_alike (did p).target (did' q).target (acts p q a).target)
-
-    kept_alike : (b : Bool) (p q : Placed) (ps qs : List Placed) → Alike text other p q → AllAlike text other ps qs
-        → AllAlike text other (cond b (p ∷ ps) ps) (cond b (q ∷ qs) qs)
-    kept_alike true p q ps qs a h = (a, h)
-    kept_alike false p q ps qs a h = h
-
     filter_alike : (c : ℕ) (ps qs : List Placed) → AllAlike text other ps qs
         → AllAlike text other (filter (has_branched did c) ps) (filter (has_branched did' c) qs)
-    filter_alike c [] [] h = tt
-    filter_alike c [] (q ∷ qs) h = absurd h
-    filter_alike c (p ∷ ps) [] h = absurd h
-    filter_alike c (p ∷ ps) (q ∷ qs) h =
-        subst (λ b. AllAlike text other (filter (has_branched did c) (p ∷ ps))
-        (cond b (q ∷ filter (has_branched did' c) qs) (filter (has_branched did' c) qs)))
-        (branched_alike c p q h.0)
-        (kept_alike (has_branched did c p) p q (filter (has_branched did c) ps) (filter (has_branched did' c) qs) h.0
-        (filter_alike c ps qs h.1))
+    filter_alike c [] qs h = grind arith
+    filter_alike c (p ∷ ps) qs h = grind (arith, filter_alike c ps)
 
     two_alike : (ps qs : List Placed) → AllAlike text other ps qs → two_branches ps ≡ two_branches qs
-    two_alike [] [] h = refl
-    two_alike [] (q ∷ qs) h = absurd h
-    two_alike (p ∷ ps) [] h = absurd h
-    two_alike (p ∷ []) (q ∷ []) h = refl
-    two_alike (p ∷ []) (q ∷ q' ∷ qs) h = absurd h.1
-    two_alike (p ∷ p' ∷ ps) (q ∷ []) h = absurd h.1
-    two_alike (p ∷ p' ∷ ps) (q ∷ q' ∷ qs) h =
-        ap (λ line. two_branches (record p { line = line } ∷ p' ∷ ps)) h.0.same.line
-        ∙ ap (λ line. two_branches (q ∷ record p' { line = line } ∷ ps)) h.1.0.same.line
-
-    lands_alike : (reg : Reg) (c : ℕ) (p q : Placed) → Alike text other p q
-        → lands_in did reg c p ≡ lands_in did' reg c q
-    lands_alike reg c p q a =
-        ap (λ n. list_any (λ (write : (Reg × ℕ) × ℕ). is_landing n reg c write.0) (did p).writes) a.cycle
-        ∙ ap (λ ws. list_any (λ (write : (Reg × ℕ) × ℕ). is_landing q.cycle reg c write.0) ws) (acts p q a).writes
+    two_alike ps qs h = grind arith
 
     found_alike : (reg : Reg) (line c : ℕ) (ps qs : List Placed) → AllAlike text other ps qs
         → option_map (λ (q : Placed). Clash reg line q.line) (find (lands_in did reg c) ps) ≡ option_map
@@ -153,40 +76,18 @@ module _ (text other : Text) where
     found_alike reg line c [] [] h = refl
     found_alike reg line c [] (q ∷ qs) h = absurd h
     found_alike reg line c (p ∷ ps) [] h = absurd h
-    found_alike reg line c (p ∷ ps) (q ∷ qs) h =
-        ap (λ b. option_map (λ (q : Placed). Clash reg line q.line) (cond b (Some p) (find (lands_in did reg c) ps)))
-        (lands_alike reg c p q h.0)
-        ∙ by_test (found_alike reg line c ps qs h.1) (lands_in did' reg c q)
-      where
-        by_test : option_map (λ (q : Placed). Clash reg line q.line) (find (lands_in did reg c) ps) ≡ option_map
-            (λ (q : Placed). Clash reg line q.line) (find (lands_in did' reg c) qs) → (b : Bool)
-            → option_map (λ (q : Placed). Clash reg line q.line) (cond b (Some p) (find (lands_in did reg c) ps))
-            ≡ option_map (λ (q : Placed). Clash reg line q.line) (cond b (Some q) (find (lands_in did' reg c) qs))
-        by_test rest true = ap (λ n. Some (Clash reg line n)) h.0.same.line
-        by_test rest false = rest
+    found_alike reg line c (p ∷ ps) (q ∷ qs) h = grind (arith, nat_tests, found_alike reg line c ps qs h.1)
 
     met_alike : (c : ℕ) (p q : Placed) (ps qs : List Placed) (write : (Reg × ℕ) × ℕ) → Alike text other p q
         → AllAlike text other ps qs
         → met_by did c p ps write ≡ met_by did' c q qs write
-    met_alike c p q ps qs write a h =
-        ap (λ n. cond (eqb (n + write.0.1) c)
-        (option_map (λ (r : Placed). Clash write.0.0 p.line r.line) (find (lands_in did write.0.0 c) ps)) None)
-        a.cycle
-        ∙ ap (λ line. cond (eqb (q.cycle + write.0.1) c)
-        (option_map (λ (r : Placed). Clash write.0.0 line r.line) (find (lands_in did write.0.0 c) ps)) None)
-        a.same.line
-        ∙ ap (λ (o : Option Stop). cond (eqb (q.cycle + write.0.1) c) o None) (found_alike write.0.0 q.line c ps qs h)
+    met_alike c p q ps qs write a h = grind (arith, found_alike write.0.0 q.line c ps qs h)
 
     clash_alike : (c : ℕ) (ps qs : List Placed) → AllAlike text other ps qs → clash did c ps ≡ clash did' c qs
     clash_alike c [] [] h = refl
     clash_alike c [] (q ∷ qs) h = absurd h
     clash_alike c (p ∷ ps) [] h = absurd h
-    clash_alike c (p ∷ ps) (q ∷ qs) h =
-        ap (λ o. option_or o (clash did c ps))
-        (ap (λ ws. first_of (met_by did c p ps) ws) (acts p q h.0).writes
-        ∙ first_of-same (met_by did c p ps) (met_by did' c q qs) (did' q).writes
-        (λ write _. met_alike c p q ps qs write h.0 h.1))
-        ∙ ap (λ o. option_or (first_of (met_by did' c q qs) (did' q).writes) o) (clash_alike c ps qs h.1)
+    clash_alike c (p ∷ ps) (q ∷ qs) h = grind (arith, nat_tests, clash_alike c ps qs h.1, first_of-same, met_alike)
 
     broken_alike : (c : ℕ) (ps qs : List Placed) → AllAlike text other ps qs
         → broken (record { placed = ps; did = did }) c ≡ broken (record { placed = qs; did = did' }) c

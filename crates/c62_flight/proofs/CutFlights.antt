@@ -1,25 +1,23 @@
 -- A flight that is cut in two.
-use Rattle.std.proofs.Common.{◌≡◌, ℕ, zero, suc, ◌+◌, ◌-◌, ◌<◌, ◌≤◌, Bool, true, false, ◌&&◌, ◌||◌, cond, eqb, ltb}
-use Rattle.std.proofs.Common.{List, [], ◌∷◌, ◌++◌, map, length, Option, Some, None, refl, sym, ◌∙◌, ap, subst, inl, inr}
-use Rattle.std.proofs.Common.{⊎_elim, arith}
-use Rattle.std.specs.Prelude.{is_some, option_map, filter, find, nat_le}
+use Rattle.std.proofs.Common.{◌≡◌, ℕ, zero, suc, ◌+◌, ◌-◌, ◌<◌, ◌≤◌, Bool, true, false, ◌&&◌, cond, eqb}
+use Rattle.std.proofs.Common.{List, [], ◌∷◌, ◌++◌, map, Option, Some, None, refl, sym, ◌∙◌, ap, subst, inl, inr}
+use Rattle.std.proofs.Common.{arith}
+use Rattle.std.specs.Prelude.{is_some, option_map, filter}
 use Rattle.std.specs.List.{list_any}
 use Rattle.std.specs.Option.{option_or}
-use Rattle.std.proofs.lemmas.Bool.{cases_lt, cond-false, and_left, and_right, ne_eqb, le-ltb}
+use Rattle.std.proofs.lemmas.Bool.{cond-false, and_left, and_right, ne_eqb, le-ltb}
 use Rattle.c62_op.specs.declared.register.Reg.{Reg}
-use Rattle.c62_op.specs.Takes.{same_reg}
 use Rattle.c62_insn.specs.declared.effect.Target.{Target}
 use Rattle.c62_serial.specs.Effect.{Act}
 use Rattle.c62_packet.specs.declared.placed.Placed.{Placed}
-use Rattle.c62_packet.specs.Clash.{is_landing}
 use Rattle.c62_meaning.specs.Packet.{Did}
 use Rattle.c62_meaning.specs.Cut.{moved, since, behind}
 use Rattle.c62_meaning.proofs.Lookup.{In, Contains_from_In}
 use Rattle.c62_meaning.proofs.MovedLandings.{ltb_moved}
 use Rattle.c62_flight.specs.declared.stop.Stop.{Stop}
-use Rattle.c62_flight.specs.declared.stop.Stop.TheVariants.{End, Limit, Clash}
-use Rattle.c62_flight.specs.Text.{Text, Position, At, Outside, row_of, position_after}
-use Rattle.c62_flight.specs.Issued.{Visit, Issued, first_of, goes_in, turn, over, over_of, is_in_flight}
+use Rattle.c62_flight.specs.declared.stop.Stop.TheVariants.{Clash}
+use Rattle.c62_flight.specs.Text.{Text, Position, row_of, position_after}
+use Rattle.c62_flight.specs.Issued.{Visit, Issued, goes_in, turn, over, over_of, is_in_flight}
 use Rattle.c62_flight.specs.Broken.{has_branched, two_branches, lands_in, met_by, clash, broken, IsWholeBefore}
 use Rattle.c62_flight.specs.Flight.{ended, Leads, Stops}
 use Rattle.c62_flight.specs.Cut.{IsDrained}
@@ -28,6 +26,7 @@ use Rattle.c62_flight.proofs.Lists.{list_any-behind, list_any-map, filter-same, 
 use Rattle.c62_flight.proofs.Lists.{find-map}
 use Rattle.c62_flight.proofs.Fronts.{over_later}
 use Rattle.c62_flight.proofs.LaterPaths.{visit_later, eqb-both, eqb-more, leb-both}
+use Rattle.std.proofs.lemmas.Bool.Decides.{nat_tests}
 
 -- ---- a cut
 
@@ -55,32 +54,13 @@ module _ (k : ℕ) (front rest : List Placed) (did did' : Did) (parted : IsParte
   turn_behind : (c : ℕ) → 0 < c
       → turn (record { placed = behind k front rest; did = did }) (k + c) ≡ turn
       (record { placed = rest; did = did' }) c
-  turn_behind c l =
-      first_of-behind (goes_in did (k + c)) front (map (moved k) rest) (λ p h. goes_not c p l h)
-      ∙ first_of-map (goes_in did (k + c)) (moved k) rest
-      ∙ first_of-same (λ p. goes_in did (k + c) (moved k p)) (goes_in did' c) rest
-      (λ p h. ap (λ b. cond b (did (moved k p)).target None) (eqb-more k p.cycle 6 c)
-      ∙ ap (λ (a : Act). cond (eqb (p.cycle + 6) c) a.target None) (parted.same p h))
+  turn_behind c l = grind (arith, nat_tests, first_of-behind, goes_not, first_of-map, first_of-same, eqb-more)
 
   over_behind : (start idle : ℕ)
       → over (record { placed = behind k front rest; did = did }) (k + start) idle ≡ k + over
       (record { placed = rest; did = did' }) start idle
   over_behind start zero = omega arith
-  over_behind start (suc idle) =
-      let e : k + start + 1 ≡ k + (start + 1) = omega arith in
-      ap (λ c. cond (is_some (turn (record { placed = behind k front rest; did = did }) c)) c
-      (over (record { placed = behind k front rest; did = did }) c idle)) e
-      ∙ ap (λ (o : Option Target). cond (is_some o) (k + (start + 1))
-      (over (record { placed = behind k front rest; did = did }) (k + (start + 1)) idle))
-      (turn_behind (start + 1) (omega arith))
-      ∙ ap (λ n. cond (is_some (turn (record { placed = rest; did = did' }) (start + 1))) (k + (start + 1)) n)
-      (over_behind (start + 1) idle)
-      ∙ by_test (is_some (turn (record { placed = rest; did = did' }) (start + 1)))
-    where
-      by_test : (b : Bool) → cond b (k + (start + 1)) (k + over (record { placed = rest; did = did' }) (start + 1) idle)
-          ≡ k + cond b (start + 1) (over (record { placed = rest; did = did' }) (start + 1) idle)
-      by_test true = refl
-      by_test false = refl
+  over_behind start (suc idle) = grind (arith, over_behind (start + 1) idle, turn_behind (start + 1))
 
   flight_not : (c : ℕ) (p : Placed) → In p front → is_in_flight did (k + c) p ≡ false
   flight_not c p h = by_target (did p).target refl
@@ -93,33 +73,17 @@ module _ (k : ℕ) (front rest : List Placed) (did did' : Did) (parted : IsParte
 
   flight_behind : (c : ℕ)
       → list_any (is_in_flight did (k + c)) (behind k front rest) ≡ list_any (is_in_flight did' c) rest
-  flight_behind c =
-      list_any-behind (is_in_flight did (k + c)) front (map (moved k) rest) (flight_not c)
-      ∙ list_any-map (is_in_flight did (k + c)) (moved k) rest
-      ∙ list_any-same (λ p. is_in_flight did (k + c) (moved k p)) (is_in_flight did' c) rest
-      (λ p h.
-      let e : k + p.cycle + 6 ≡ k + (p.cycle + 6) = omega arith in
-      ap (λ b. is_some (did (moved k p)).target && (b && ltb (k + c) (k + p.cycle + 6))) (ltb_moved k p.cycle c)
-      ∙ ap (λ n. is_some (did (moved k p)).target && (ltb p.cycle c && ltb (k + c) n)) e
-      ∙ ap (λ b. is_some (did (moved k p)).target && (ltb p.cycle c && b)) (ltb_moved k c (p.cycle + 6))
-      ∙ ap (λ (a : Act). is_some a.target && (ltb p.cycle c && ltb c (p.cycle + 6))) (parted.same p h))
+  flight_behind c = grind (arith, nat_tests, list_any-behind, flight_not, list_any-map, list_any-same, ltb_moved)
 
   ended_behind : (text : Text) (more : ℕ) (position : Position) (c : ℕ)
       → ended text (k + more) (record { placed = behind k front rest; did = did }) position (k + c) ≡ ended text more
       (record { placed = rest; did = did' }) position c
-  ended_behind text more (Outside word) c = refl
-  ended_behind text more (At row) c =
-      ap (λ (b : Bool). cond (ltb row (length text.rows) || b) (cond (nat_le (k + more) (k + c)) (Some Limit) None)
-      (Some End)) (flight_behind c)
-      ∙ ap (λ (b : Bool). cond (ltb row (length text.rows) || list_any (is_in_flight did' c) rest)
-      (cond b (Some Limit) None) (Some End)) (leb-both k more c)
+  ended_behind text more position c = grind (arith, flight_behind, leb-both)
 
   -- ---- broken cycles
 
   two_later : (ps : List Placed) → two_branches (map (moved k) ps) ≡ two_branches ps
-  two_later [] = refl
-  two_later (p ∷ []) = refl
-  two_later (p ∷ q ∷ ps) = refl
+  two_later ps = grind arith
 
   branched_behind : (c : ℕ)
       → two_branches (filter (has_branched did (k + c)) (behind k front rest)) ≡ two_branches
@@ -139,41 +103,22 @@ module _ (k : ℕ) (front rest : List Placed) (did did' : Did) (parted : IsParte
 
   lands_later : (c : ℕ) (reg : Reg) (p : Placed) → did (moved k p) ≡ did' p
       → lands_in did reg (k + c) (moved k p) ≡ lands_in did' reg c p
-  lands_later c reg p e =
-      list_any-same (λ (write : (Reg × ℕ) × ℕ). is_landing (k + p.cycle) reg (k + c) write.0) (λ (write : (Reg × ℕ)
-      × ℕ). is_landing p.cycle reg c write.0) (did (moved k p)).writes
-      (λ write _. ap (λ b. same_reg write.0.0 reg && b) (eqb-more k p.cycle write.0.1 c))
-      ∙ ap (λ (a : Act). list_any (λ (write : (Reg × ℕ) × ℕ). is_landing p.cycle reg c write.0) a.writes) e
+  lands_later c reg p e = grind (arith, list_any-same, eqb-more k p.cycle)
 
   lines_same : (reg : Reg) (line : ℕ) (o : Option Placed)
       → option_map (λ (q : Placed). Clash reg line q.line) (option_map (moved k) o) ≡ option_map
       (λ (q : Placed). Clash reg line q.line) o
-  lines_same reg line None = refl
-  lines_same reg line (Some q) = refl
+  lines_same reg line o = grind arith
 
   met_later : (c : ℕ) (p : Placed) (ps : List Placed) (write : (Reg × ℕ) × ℕ)
       → ((q : Placed) → In q ps → did (moved k q) ≡ did' q)
       → met_by did (k + c) (moved k p) (map (moved k) ps) write ≡ met_by did' c p ps write
-  met_later c p ps write same =
-      ap (λ b. cond b (option_map (λ (q : Placed). Clash write.0.0 p.line q.line)
-      (find (lands_in did write.0.0 (k + c)) (map (moved k) ps))) None) (eqb-more k p.cycle write.0.1 c)
-      ∙ ap (λ (o : Option Stop). cond (eqb (p.cycle + write.0.1) c) o None)
-      (ap (λ (o : Option Placed). option_map (λ (q : Placed). Clash write.0.0 p.line q.line) o)
-      (find-map (lands_in did write.0.0 (k + c)) (moved k) ps)
-      ∙ lines_same write.0.0 p.line (find (λ q. lands_in did write.0.0 (k + c) (moved k q)) ps)
-      ∙ ap (λ (o : Option Placed). option_map (λ (q : Placed). Clash write.0.0 p.line q.line) o)
-      (find-same (λ q. lands_in did write.0.0 (k + c) (moved k q)) (lands_in did' write.0.0 c) ps
-      (λ q h. lands_later c write.0.0 q (same q h))))
+  met_later c p ps write same = grind (arith, nat_tests, eqb-more, find-map, lines_same, find-same, lands_later)
 
   clash_later : (c : ℕ) (ps : List Placed) → ((q : Placed) → In q ps → did (moved k q) ≡ did' q)
       → clash did (k + c) (map (moved k) ps) ≡ clash did' c ps
   clash_later c [] same = refl
-  clash_later c (p ∷ ps) same =
-      ap (λ o. option_or o (clash did (k + c) (map (moved k) ps)))
-      (first_of-same (met_by did (k + c) (moved k p) (map (moved k) ps)) (met_by did' c p ps) (did (moved k p)).writes
-      (λ write _. met_later c p ps write (λ q h. same q (inr h)))
-      ∙ ap (λ (a : Act). first_of (met_by did' c p ps) a.writes) (same p (inl refl)))
-      ∙ ap (λ o. option_or (first_of (met_by did' c p ps) (did' p).writes) o) (clash_later c ps (λ q h. same q (inr h)))
+  clash_later c (p ∷ ps) same = grind (arith, nat_tests, clash_later c ps, first_of-same, met_later)
 
   clash_not : (c : ℕ) (ps qs : List Placed) → ((p : Placed) → In p ps → In p front)
       → clash did (k + c) (ps ++ qs) ≡ clash did (k + c) qs
@@ -190,22 +135,14 @@ module _ (k : ℕ) (front rest : List Placed) (did did' : Did) (parted : IsParte
   pub broken_behind : (c : ℕ)
       → broken (record { placed = behind k front rest; did = did }) (k + c) ≡ broken
       (record { placed = rest; did = did' }) c
-  broken_behind c =
-      ap (λ o. option_or o (clash did (k + c) (behind k front rest))) (branched_behind c)
-      ∙ ap (λ o. option_or (two_branches (filter (has_branched did' c) rest)) o)
-      (clash_not c front (map (moved k) rest) (λ p h. h) ∙ clash_later c rest parted.same)
+  broken_behind c = grind (arith, nat_tests, branched_behind, clash_not, clash_later)
 
   -- ---- the rest of the path and its stop
 
   module _ (text : Text) (more : ℕ) (whole : IsWholeBefore (record { placed = behind k front rest; did = did }) k) where
     whole_behind : (cycle : ℕ) → IsWholeBefore (record { placed = rest; did = did' }) cycle
         → IsWholeBefore (record { placed = behind k front rest; did = did }) (k + cycle)
-    whole_behind cycle w c l =
-        ⊎_elim {C = broken (record { placed = behind k front rest; did = did }) c ≡ None} (λ u. whole c u)
-        (λ u.
-        let e : c ≡ k + (c - k) = omega arith in
-        ap (λ n. broken (record { placed = behind k front rest; did = did }) n) e ∙ broken_behind (c - k)
-        ∙ w (c - k) (omega arith)) (cases_lt c k)
+    whole_behind cycle w c l = grind (arith, broken_behind (c - k))
 
     pub leads_behind : (position : Position) (cycle : ℕ) (path : List Visit) (last : Position) (end : ℕ)
         → Leads text more (record { placed = rest; did = did' }) position cycle path last end
@@ -240,17 +177,12 @@ module _ (k : ℕ) (front rest : List Placed) (did did' : Did) (parted : IsParte
     pub stops_behind : (last : Position) (end : ℕ) (stop : Stop) (cycles : ℕ)
         → Stops text more (record { placed = rest; did = did' }) last end stop cycles
         → Stops text (k + more) (record { placed = behind k front rest; did = did }) last (k + end) stop (k + cycles)
-    stops_behind last end stop cycles (inl b) =
-        inl (record {
-          cycle = k + b.cycle;
-          whole = whole_behind b.cycle b.whole;
-          breaks = broken_behind b.cycle ∙ b.breaks;
-          seen = elim b.seen [
-            | inl l ↦ inl (omega arith)
-            | inr e ↦ inr (ap is_some (ended_behind text more last end) ∙ e)
-          ];
-          told = (let e : cycles ≡ b.cycle + 1 = b.told in omega arith);
-        })
+    stops_behind last end stop cycles (inl b) = grind (
+      arith,
+      whole_behind b.cycle b.whole,
+      broken_behind b.cycle,
+      ended_behind text more last end,
+    )
     stops_behind last end stop cycles (inr e) =
         inr (record {
           whole = λ c. whole_behind (c + 1) (λ n _. e.whole n) c (omega arith);

@@ -1,9 +1,7 @@
 -- Each text has a flight.
-use Rattle.std.proofs.Common.{◌≡◌, ℕ, zero, suc, ◌+◌, ◌<◌, ◌≤◌, Bool, true, false, cond, List, [], ◌∷◌, ◌++◌, Option}
-use Rattle.std.proofs.Common.{Some, None, refl, sym, ◌∙◌, ap, subst, ◌⊎◌, inl, inr, ⊎_elim, arith}
+use Rattle.std.proofs.Common.{◌≡◌, ℕ, zero, suc, ◌+◌, ◌<◌, ◌≤◌, Bool, cond, List, [], ◌∷◌, ◌++◌, Option}
+use Rattle.std.proofs.Common.{Some, None, refl, sym, ◌∙◌, ap, subst, ◌⊎◌, inl, inr, arith}
 use Rattle.std.specs.Prelude.{nat_le}
-use Rattle.std.proofs.lemmas.Bool.{cases_Bool, cond-true, leb-false}
-use Rattle.std.proofs.lemmas.Option.{none-some}
 use Rattle.std.proofs.lemmas.List.{append-nil, append_assoc}
 use Rattle.c62_serial.specs.State.{Machine, IsSound}
 use Rattle.c62_packet.specs.declared.placed.Placed.{Placed}
@@ -14,8 +12,8 @@ use Rattle.c62_meaning.proofs.Runs.{the_run, the_run_runs}
 use Rattle.c62_meaning.proofs.JoinedRuns.{runs_to}
 use Rattle.c62_flight.specs.declared.stop.Stop.{Stop}
 use Rattle.c62_flight.specs.declared.stop.Stop.TheVariants.{End, Limit}
-use Rattle.c62_flight.specs.Text.{Text, Position, At, Outside, row_of, position_after}
-use Rattle.c62_flight.specs.Issued.{Visit, Issued, issued_in, issued_on, turn, over_of, goes_on}
+use Rattle.c62_flight.specs.Text.{Text, Position, At, row_of, position_after}
+use Rattle.c62_flight.specs.Issued.{Visit, Issued, issued_in, issued_on, turn, over_of}
 use Rattle.c62_flight.specs.Broken.{IsWholeBefore}
 use Rattle.c62_flight.specs.Flight.{ended, Leads, Stops, Flies}
 use Rattle.c62_flight.specs.Laws.{Outcome, FliesTo, HasOneFlight}
@@ -149,15 +147,11 @@ module _ (text : Text) (limit : ℕ) (opening : Machine) where
   -- a run that is not ended stands before a row, and below the limit
   before_row : (issued : Issued) (position : Position) (cycle : ℕ) → ended text limit issued position cycle ≡ None
       → (row : ℕ) × (position ≡ At row)
-  before_row issued (At row) cycle e = (row, refl)
-  before_row issued (Outside word) cycle e = absurd (none-some _ (sym e))
+  before_row issued position cycle e = grind arith
 
   below_limit : (goes : Bool) (cycle : ℕ) → cond goes (cond (nat_le limit cycle) (Some Limit) None) (Some End) ≡ None
       → cycle < limit
-  below_limit false cycle e = absurd (none-some _ (sym e))
-  below_limit true cycle e =
-      ⊎_elim {C = cycle < limit} (λ t. absurd (none-some _ (sym e ∙ cond-true _ _ _ t))) (λ t. leb-false limit cycle t)
-      (cases_Bool (nat_le limit cycle))
+  below_limit goes cycle e = grind arith
 
   -- a run is stopped where it stands, or begins a row
   decide : (front : List Placed) (position : Position) (cycle : ℕ) → Early cycle front
@@ -193,10 +187,7 @@ module _ (text : Text) (limit : ℕ) (opening : Machine) where
   -- so much of the limit being left
   find_from : (fuel : ℕ) (front : List Placed) (position : Position) (cycle : ℕ) → limit ≤ cycle + fuel
       → Early cycle front → Found text limit opening front position cycle
-  find_from zero front position cycle l early =
-      decide front position cycle early
-      (λ row e on whole. (let u : cycle < limit = below_limit (goes_on text (alone front) row cycle) cycle on in absurd
-      (omega arith)))
+  find_from zero front position cycle l early = grind (arith, decide front position cycle early, below_limit)
   find_from (suc fuel) front position cycle l early =
       decide front position cycle early
       (λ row e on whole.

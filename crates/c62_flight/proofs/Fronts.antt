@@ -1,10 +1,10 @@
 -- What was issued before a cycle is all that counts until then.
-use Rattle.std.proofs.Common.{◌≡◌, ℕ, zero, suc, ◌+◌, ◌<◌, ◌≤◌, Bool, false, ◌&&◌, ◌||◌, cond, eqb, ltb, List, [], ◌∷◌}
-use Rattle.std.proofs.Common.{◌++◌, length, map, Option, Some, None, refl, sym, ◌∙◌, ap, subst, inl, inr, ⊎_elim, arith}
-use Rattle.std.specs.Prelude.{is_some, option_map, filter, nat_le}
+use Rattle.std.proofs.Common.{◌≡◌, ℕ, zero, suc, ◌+◌, ◌<◌, ◌≤◌, false, ◌&&◌, cond, eqb, ltb, List, [], ◌∷◌}
+use Rattle.std.proofs.Common.{◌++◌, map, Option, None, refl, sym, ◌∙◌, ap, subst, inl, inr, arith}
+use Rattle.std.specs.Prelude.{is_some, option_map, filter}
 use Rattle.std.specs.List.{list_any}
 use Rattle.std.specs.Option.{option_or}
-use Rattle.std.proofs.lemmas.Bool.{cases_Bool, cond-true, cond-false, cond_both, and_left, and_right, le-ltb, ne_eqb}
+use Rattle.std.proofs.lemmas.Bool.{cond-false, and_left, and_right, le-ltb, ne_eqb}
 use Rattle.c62_op.specs.declared.register.Reg.{Reg}
 use Rattle.c62_serial.specs.State.{Machine}
 use Rattle.c62_serial.specs.Effect.{Act}
@@ -16,13 +16,14 @@ use Rattle.c62_meaning.proofs.Lookup.{In, In_from_Contains}
 use Rattle.c62_meaning.proofs.Runs.{one_run}
 use Rattle.c62_meaning.proofs.Cuts.{moved_back, begins}
 use Rattle.c62_flight.specs.declared.stop.Stop.{Stop}
-use Rattle.c62_flight.specs.declared.stop.Stop.TheVariants.{End, Clash, Limit}
+use Rattle.c62_flight.specs.declared.stop.Stop.TheVariants.{Clash}
 use Rattle.c62_flight.specs.Text.{Text, Position, At, Outside}
 use Rattle.c62_flight.specs.Issued.{Issued, first_of, goes_in, turn, over, is_in_flight}
 use Rattle.c62_flight.specs.Broken.{has_branched, two_branches, lands_in, met_by, clash, broken}
 use Rattle.c62_flight.specs.Flight.{ended}
 use Rattle.c62_flight.proofs.Lists.{first_of-front, first_of-same, first_of-none, list_any-front, list_any-same}
 use Rattle.c62_flight.proofs.Lists.{list_any-none, find-front, find-same, filter-front, filter-same}
+use Rattle.std.proofs.lemmas.Bool.Decides.{nat_tests}
 
 -- none of these is issued before t
 abbrev pub Late : ℕ → List Placed → Type 0
@@ -58,19 +59,12 @@ pub same_until : (s : Machine) (t cycle : ℕ) (front rest rest' : List Placed) 
     → Late cycle rest → Late cycle rest' → Late t rest → Late t rest'
     → one.placed ≡ front ++ rest → other.placed ≡ front ++ rest' → IsRun one.placed s one.did
     → IsRun other.placed s other.did → AreSameUntil t one other
-same_until s t cycle front rest rest' one other early late late' late_t late_t' is is' run run' = record {
-  front = front;
-  one_rest = rest;
-  other_rest = rest';
-  one_is = is;
-  other_is = is';
-  one_late = late_t;
-  other_late = late_t';
-  same = λ p h. one_run front s one.did other.did
-      (run_of_front cycle front rest s one.did early late (subst (λ ps. IsRun ps s one.did) is run))
-      (run_of_front cycle front rest' s other.did early late' (subst (λ ps. IsRun ps s other.did) is' run'))
-      (suc p.cycle) p h (omega arith);
-}
+same_until s t cycle front rest rest' one other early late late' late_t late_t' is is' run run' = grind (
+  arith,
+  one_run front s one.did other.did,
+  run_of_front cycle front rest s one.did early late,
+  run_of_front cycle front rest' s other.did early late',
+)
 
 -- ---- branches
 
@@ -90,10 +84,7 @@ turn_same t c one other h l =
 
 pub over_later : (issued : Issued) (start idle : ℕ) → start < over issued start idle
 over_later issued start zero = omega arith
-over_later issued start (suc idle) =
-    cond_both (is_some (turn issued (start + 1))) (start + 1) (over issued (start + 1) idle) (λ o. start < o)
-    (λ _. omega arith)
-    (λ _. let h : start + 1 < over issued (start + 1) idle = over_later issued (start + 1) idle in omega arith)
+over_later issued start (suc idle) = grind (arith, over_later issued (start + 1) idle)
 
 next_within : (n m : ℕ) → n < m → n + 1 ≤ m
 next_within n m l = omega arith
@@ -103,21 +94,13 @@ pub over_same : (one other : Issued) (start idle : ℕ)
     → ((c : ℕ) → c ≤ over one start idle → c ≤ over other start idle → turn one c ≡ turn other c)
     → over one start idle ≡ over other start idle
 over_same one other start zero h = refl
-over_same one other start (suc idle) h =
-    ⊎_elim {C = over one start (suc idle) ≡ over other start (suc idle)}
-    (λ t. cond-true _ _ _ t ∙ sym (cond-true _ _ _ (sym e ∙ t)))
-    (λ t.
-    let a : over one start (suc idle) ≡ over one (start + 1) idle = cond-false _ _ _ t in
-    let b : over other start (suc idle) ≡ over other (start + 1) idle = cond-false _ _ _ (sym e ∙ t) in
-    a ∙ over_same one other (start + 1) idle
-    (λ c l u. h c (subst (λ z. c ≤ z) (sym a) l) (subst (λ z. c ≤ z) (sym b) u)) ∙ sym b)
-    (cases_Bool (is_some (turn one (start + 1))))
-  where
-    e : is_some (turn one (start + 1)) ≡ is_some (turn other (start + 1))
-    e =
-        let l : start < over one start (suc idle) = over_later one start (suc idle) in
-        let u : start < over other start (suc idle) = over_later other start (suc idle) in
-        ap is_some (h (start + 1) (next_within start _ l) (next_within start _ u))
+over_same one other start (suc idle) h = grind (
+  arith,
+  nat_tests,
+  over_same one other (start + 1) idle,
+  over_later,
+  next_within,
+)
 
 -- ---- broken cycles
 
@@ -128,8 +111,7 @@ landing_late : (c : ℕ) (reg : Reg) (p : Placed) (write : Reg × ℕ) → c < p
 landing_late c reg p write l = and_right _ _ (ne_eqb _ _ (λ (e : p.cycle + write.1 ≡ c). omega arith))
 
 lands_late : (did : Did) (c : ℕ) (reg : Reg) (p : Placed) → c < p.cycle → lands_in did reg c p ≡ false
-lands_late did c reg p l = list_any-none (λ write. is_landing p.cycle reg c write.0) (did p).writes
-    (λ write _. landing_late c reg p write.0 l)
+lands_late did c reg p l = grind (arith, list_any-none, landing_late c reg p)
 
 met_late : (did : Did) (c : ℕ) (p : Placed) (others : List Placed) (write : (Reg × ℕ) × ℕ) → c < p.cycle
     → met_by did c p others write ≡ None
@@ -164,15 +146,14 @@ lands_same did did' c reg p e = ap (λ (a : Act). list_any (λ write. is_landing
 clash_same : (did did' : Did) (c : ℕ) (ps : List Placed) → ((p : Placed) → In p ps → did p ≡ did' p)
     → clash did c ps ≡ clash did' c ps
 clash_same did did' c [] h = refl
-clash_same did did' c (p ∷ ps) h =
-    ap (λ (a : Act). option_or (first_of (met_by did c p ps) a.writes) (clash did c ps)) (h p (inl refl))
-    ∙ ap (λ o. option_or o (clash did c ps))
-    (first_of-same (met_by did c p ps) (met_by did' c p ps) (did' p).writes
-    (λ write _. ap (met_through c p write)
-    (find-same (lands_in did write.0.0 c) (lands_in did' write.0.0 c) ps
-    (λ q k. lands_same did did' c write.0.0 q (h q (inr k))))))
-    ∙ ap (λ o. option_or (first_of (met_by did' c p ps) (did' p).writes) o)
-    (clash_same did did' c ps (λ q k. h q (inr k)))
+clash_same did did' c (p ∷ ps) h = grind (
+  arith,
+  nat_tests,
+  clash_same did did' c ps,
+  first_of-same,
+  find-same,
+  lands_same,
+)
 
 broken_front : (did : Did) (c : ℕ) (ps qs : List Placed) → ((q : Placed) → In q qs → c < q.cycle)
     → broken (record { placed = ps ++ qs; did = did }) c ≡ broken (record { placed = ps; did = did }) c
@@ -219,6 +200,4 @@ pub ended_same : (text : Text) (limit t c : ℕ) (one other : Issued) (position 
     → c ≤ t
     → ended text limit one position c ≡ ended text limit other position c
 ended_same text limit t c one other (Outside word) h l = refl
-ended_same text limit t c one other (At row) h l =
-    ap (λ (b : Bool). cond (ltb row (length text.rows) || b) (cond (nat_le limit c) (Some Limit) None) (Some End))
-    (any_in_flight_same t c one other h l)
+ended_same text limit t c one other (At row) h l = grind (arith, any_in_flight_same t c one other h l)

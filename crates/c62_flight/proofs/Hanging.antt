@@ -1,103 +1,59 @@
 -- Small texts whose flights hang on a register, told by computation.
-use Rattle.std.proofs.Common.{◌≡◌, ℕ, zero, suc, ◌+◌, ◌<◌, ◌≤◌, Bool, true, ◌&&◌, List, [], ◌∷◌, Option, Some, None}
-use Rattle.std.proofs.Common.{refl, sym, ◌∙◌, ap, subst, ◌⊎◌, inl, inr, ⊎_elim, arith}
-use Rattle.std.specs.Prelude.{IsFalse, ◌%◌, ◌^◌, is_some, is_none, nat_lt, nat_le, slice_index}
-use Rattle.std.specs.List.{list_all}
-use Rattle.std.proofs.lemmas.Bool.{cond-false, and_parts, ltb-true, leb-true, cases_order, cases_lt}
-use Rattle.c62_serial.specs.State.{Machine, IsSound, word_in}
+use Rattle.std.proofs.Common.{[], ◌∷◌}
+use Rattle.std.proofs.Common.{refl, arith}
+use Rattle.std.specs.Prelude.{◌%◌, ◌^◌, slice_index}
 use Rattle.c62_serial.specs.Memory.{number_of, bytes_from}
-use Rattle.c62_packet.specs.declared.placed.Placed.{Placed}
-use Rattle.c62_meaning.specs.Meaning.{LeavesState}
-use Rattle.c62_meaning.proofs.Runs.{acts_to, the_run, the_run_runs}
-use Rattle.c62_flight.specs.declared.stop.Stop.{Stop}
-use Rattle.c62_flight.specs.declared.stop.Stop.TheVariants.{End, Register, Clash, Branches, Limit}
-use Rattle.c62_flight.specs.Text.{Text, Position, At, Outside, is_address, position_after}
-use Rattle.c62_flight.specs.Issued.{Visit, Issued, issued_on, turn, over_of}
-use Rattle.c62_flight.specs.Broken.{broken, IsWholeBefore}
-use Rattle.c62_flight.specs.Flight.{ended, Leads, Flies}
-use Rattle.c62_flight.specs.Samples.{a2, b3, three_a1, five_a2, square, branch, leave, packet, nop, text_of, Runs}
-use Rattle.c62_flight.specs.Samples.{over_mvk, if_over, maybe_clash, one_or_other, in_the_slots, end_and_back}
-use Rattle.c62_flight.specs.Samples.{six_in_flight, load, with_a1, RunsWithA1, LeavesInA2, SamplesFly, SamplesHang}
-use Rattle.c62_flight.proofs.RowTests.{IsTold, IsBroken, ends_so, breaks_so, leaves_so, v}
+use Rattle.c62_meaning.proofs.Runs.{acts_to, the_run}
+use Rattle.c62_flight.specs.declared.stop.Stop.TheVariants.{End, Clash}
+use Rattle.c62_flight.specs.Text.{At}
+use Rattle.c62_flight.specs.Samples.{a2, square, packet, text_of}
+use Rattle.c62_flight.specs.Samples.{if_over, maybe_clash, one_or_other}
+use Rattle.c62_flight.specs.Samples.{load, with_a1, RunsWithA1, LeavesInA2, SamplesHang}
+use Rattle.c62_flight.proofs.RowTests.{ends_so, breaks_so, leaves_so, v}
 
 -- ---- texts
 
 hang_nop_whole : RunsWithA1 0 if_over End 10
 unfolding the_run acts_to
-hang_nop_whole a0 others memory faults sound =
-    ends_so if_over 100 (with_a1 0 a0 others memory faults) (v 0 0 ∷ v 1 1 ∷ []) (At 2) 10 End sound
-    (record {
-      steps = ((refl, refl, refl), ((refl, refl, refl), (refl, refl)));
-      starts = refl;
-      early = refl;
-      whole =
-          refl;
-      ends = refl;
-    })
+hang_nop_whole a0 others memory faults sound = grind (
+  arith,
+  ends_so if_over 100 (with_a1 0 a0 others memory faults) (v 0 0 ∷ v 1 1 ∷ []) (At 2) 10 End sound,
+)
 
 hang_nop_cut : RunsWithA1 1 if_over End 6
 unfolding the_run acts_to
-hang_nop_cut a0 others memory faults sound =
-    ends_so if_over 100 (with_a1 1 a0 others memory faults) (v 0 0 ∷ v 1 1 ∷ []) (At 2) 6 End sound
-    (record {
-      steps = ((refl, refl, refl), ((refl, refl, refl), (refl, refl)));
-      starts = refl;
-      early = refl;
-      whole =
-          refl;
-      ends = refl;
-    })
+hang_nop_cut a0 others memory faults sound = grind (
+  arith,
+  ends_so if_over 100 (with_a1 1 a0 others memory faults) (v 0 0 ∷ v 1 1 ∷ []) (At 2) 6 End sound,
+)
 
 hang_no_clash : RunsWithA1 0 maybe_clash End 2
 unfolding the_run acts_to
-hang_no_clash a0 others memory faults sound =
-    ends_so maybe_clash 100 (with_a1 0 a0 others memory faults) (v 0 0 ∷ v 1 1 ∷ []) (At 2) 2 End sound
-    (record {
-      steps = ((refl, refl, refl), ((refl, refl, refl), (refl, refl)));
-      starts = refl;
-      early = refl;
-      whole =
-          refl;
-      ends = refl;
-    })
+hang_no_clash a0 others memory faults sound = grind (
+  arith,
+  ends_so maybe_clash 100 (with_a1 0 a0 others memory faults) (v 0 0 ∷ v 1 1 ∷ []) (At 2) 2 End sound,
+)
 
 hang_clash : RunsWithA1 1 maybe_clash (Clash a2 1 2) 2
 unfolding the_run acts_to
-hang_clash a0 others memory faults sound =
-    breaks_so maybe_clash 100 (with_a1 1 a0 others memory faults) (v 0 0 ∷ v 1 1 ∷ []) (At 2) 2 1 (Clash a2 1 2) sound
-    (record {
-      steps = ((refl, refl, refl), ((refl, refl, refl), (refl, refl)));
-      starts = refl;
-      whole = refl;
-      breaks =
-          refl;
-      seen = inl (omega arith);
-    })
+hang_clash a0 others memory faults sound = grind (
+  arith,
+  breaks_so maybe_clash 100 (with_a1 1 a0 others memory faults) (v 0 0 ∷ v 1 1 ∷ []) (At 2) 2 1 (Clash a2 1 2) sound,
+)
 
 hang_other : RunsWithA1 0 one_or_other End 6
 unfolding the_run acts_to
-hang_other a0 others memory faults sound =
-    ends_so one_or_other 100 (with_a1 0 a0 others memory faults) (v 0 0 ∷ v 1 1 ∷ []) (At 3) 6 End sound
-    (record {
-      steps = ((refl, refl, refl), ((refl, refl, refl), (refl, refl)));
-      starts = refl;
-      early = refl;
-      whole =
-          refl;
-      ends = refl;
-    })
+hang_other a0 others memory faults sound = grind (
+  arith,
+  ends_so one_or_other 100 (with_a1 0 a0 others memory faults) (v 0 0 ∷ v 1 1 ∷ []) (At 3) 6 End sound,
+)
 
 hang_one : RunsWithA1 1 one_or_other End 7
 unfolding the_run acts_to
-hang_one a0 others memory faults sound =
-    ends_so one_or_other 100 (with_a1 1 a0 others memory faults) (v 0 0 ∷ v 1 1 ∷ v 2 6 ∷ []) (At 3) 7 End sound
-    (record {
-      steps = ((refl, refl, refl), ((refl, refl, refl), ((refl, refl, refl), (refl, refl))));
-      starts = refl;
-      early = refl;
-      whole = refl;
-      ends = refl;
-    })
+hang_one a0 others memory faults sound = grind (
+  arith,
+  ends_so one_or_other 100 (with_a1 1 a0 others memory faults) (v 0 0 ∷ v 1 1 ∷ v 2 6 ∷ []) (At 3) 7 End sound,
+)
 
 hang_product_lands : LeavesInA2 3 (text_of (packet (square 1 ∷ []) ∷ []) []) 1 (λ memory. 9)
 unfolding the_run acts_to

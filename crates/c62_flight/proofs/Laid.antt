@@ -1,8 +1,8 @@
 -- Blocks that are laid out fly as their chain.
 use Rattle.std.proofs.Common.{◌≡◌, ℕ, ◌+◌, ◌<◌, ◌≤◌, List, [], ◌∷◌, length, Some, None, refl}
 use Rattle.std.proofs.Common.{sym, ◌∙◌, ap, subst, ◌⊎◌, inl, inr, ⊎_elim, arith, ◌-◌}
-use Rattle.std.specs.Prelude.{All, nat_lt, slice_get}
-use Rattle.std.proofs.lemmas.Bool.{cases_lt, cond-false, cond_both, ltb-true, ltb-false}
+use Rattle.std.specs.Prelude.{All, slice_get}
+use Rattle.std.proofs.lemmas.Bool.{cases_lt, cond-false}
 use Rattle.std.proofs.lemmas.Option.{slice_get-get_or}
 use Rattle.std.proofs.lemmas.List.Sums.{sum_by-cons}
 use Rattle.c62_insn.specs.declared.effect.Target.{Target}
@@ -28,6 +28,7 @@ use Rattle.c62_flight.proofs.Joined.{flies_on}
 use Rattle.c62_flight.proofs.LaidBlock.{takes, names, in_placed, exit_plain, cut_plain, exit_turned, cut_turned}
 use Rattle.c62_flight.proofs.LaidBlock.{flies_out, any_branch}
 use Rattle.c62_flight.proofs.Stays.{stays_behind, stays_limited}
+use Rattle.std.proofs.lemmas.Bool.Decides.{nat_tests}
 
 -- ---- a flight with a part before it
 
@@ -59,11 +60,7 @@ module _ (text : Text) (packets : List Packed) (laid : AreLaid text packets) (bl
 
   stands_at : (number row : ℕ) → (number < length packets → row ≡ laid.row number)
       → (length packets ≤ number → row ≡ length text.rows) → StandsAt (position_at (length packets) number) row
-  stands_at number row inside outside =
-      cond_both (nat_lt number (length packets)) (AtBlock number) (Ended FellThrough)
-      (λ position. StandsAt position row)
-      (λ t. (ltb-true number (length packets) t, inside (ltb-true number (length packets) t)))
-      (λ t. outside (ltb-false number (length packets) t))
+  stands_at number row inside outside = grind (arith, nat_tests)
 
   -- by how many cycles the block there leads its row
   abbrev lead_at : ChainPosition → ℕ
@@ -71,14 +68,11 @@ module _ (text : Text) (packets : List Packed) (laid : AreLaid text packets) (bl
   lead_at (Ended stop) = 0
 
   lead_within : (number : ℕ) → lead_at (position_at (length packets) number) ≤ laid.lead number
-  lead_within number = cond_both (nat_lt number (length packets)) (AtBlock number) (Ended FellThrough)
-      (λ position. lead_at position ≤ laid.lead number) (λ t. omega arith) (λ t. omega arith)
+  lead_within number = grind arith
 
   no_lead : (number : ℕ) → (number < length packets → laid.lead number ≡ 0)
       → lead_at (position_at (length packets) number) ≡ 0
-  no_lead number none =
-      cond_both (nat_lt number (length packets)) (AtBlock number) (Ended FellThrough) (λ position. lead_at position ≡ 0)
-      (λ t. none (ltb-true number (length packets) t)) (λ t. refl)
+  no_lead number none = grind (arith, nat_tests)
 
   at_end : (position : ChainPosition) (row : ℕ) (machine : Machine) → StandsAt position row → IsSound machine
       → FliesAs text row machine position machine (0 - lead_at position)
@@ -101,15 +95,7 @@ module _ (text : Text) (packets : List Packed) (laid : AreLaid text packets) (bl
             (0 + more) machine sound l;
       })
       (cases_lt row (length text.rows))
-  at_end (Ended FellThrough) row machine stands sound =
-      record {
-        stop = End;
-        taken = 0;
-        long = omega arith;
-        told = refl;
-        flies = λ more h. stays_behind text row
-            (0 + more) machine sound (let e : row ≡ length text.rows = stands in omega arith);
-      }
+  at_end (Ended FellThrough) row machine stands sound = grind (arith, stays_behind text row)
   at_end (Ended (LeftBy word)) row machine stands sound = absurd stands
   at_end (Ended Stopped) row machine stands sound = absurd stands
 
@@ -125,8 +111,7 @@ module _ (text : Text) (packets : List Packed) (laid : AreLaid text packets) (bl
       → (final ≡ machine) × (last ≡ Ended (LeftBy word)) × (numbers ≡ [])
   unfolding ChainLeads
   left [] machine word final last leads = (leads.0, leads.1, refl)
-  left (number ∷ numbers) machine word final last leads = let e : Ended (LeftBy word) ≡ AtBlock number = leads.0 in
-      absurd cc
+  left (number ∷ numbers) machine word final last leads = grind arith
 
   one_block : (number row : ℕ) (numbers : List ℕ) (machine : Machine) (final : Machine) (last : ChainPosition)
       (ran : Ran) → number < length packets → row ≡ laid.row number → IsSound machine
@@ -256,16 +241,10 @@ module _ (text : Text) (packets : List Packed) (laid : AreLaid text packets) (bl
       (chain_flies numbers))
 
 pub laid_flies : (text : Text) (packets : List Packed) → LaidFlies text packets
-laid_flies text packets laid blocks opening limit standing sound chain out =
-    let f : FliesAs text 0 opening standing.position standing.machine
-    (cycles_taken packets standing.numbers - lead_at text packets laid blocks (position_at (length packets) 0))
-    = chain_flies text packets laid blocks standing.numbers opening (position_at (length packets) 0) 0 standing.machine
-    standing.position
-    (stands_at text packets laid blocks 0 0 (λ l. sym laid.first)
-    (λ l. (let e : 0 ≡ length packets = omega arith in sym laid.first ∙ ap (λ n. laid.row n) e ∙ laid.last)))
-    sound chain.stands out in
-    let none : lead_at text packets laid blocks (position_at (length packets) 0) ≡ 0 = no_lead text packets laid blocks
-    0 (λ l. laid.begun) in
-    let long : cycles_taken packets standing.numbers - lead_at text packets laid blocks (position_at (length packets) 0)
-    ≤ f.taken = f.long in
-    record { stop = f.stop; taken = f.taken; long = omega arith; told = f.told; flies = f.flies }
+laid_flies text packets laid blocks opening limit standing sound chain out = grind (
+  arith,
+  chain_flies text packets laid blocks standing.numbers opening (position_at (length packets) 0) 0 standing.machine
+      standing.position,
+  stands_at text packets laid blocks 0 0,
+  no_lead text packets laid blocks 0,
+)

@@ -1,6 +1,6 @@
 -- A block that lies in rows flies as it runs.
-use Rattle.std.proofs.Common.{◌≡◌, ℕ, zero, suc, ◌+◌, ◌-◌, ◌<◌, ◌≤◌, Bool, true, false, cond, eqb, List, [], ◌∷◌}
-use Rattle.std.proofs.Common.{length, Option, Some, None, refl, sym, ◌∙◌, ap, subst, ◌⊎◌, inr, arith}
+use Rattle.std.proofs.Common.{◌≡◌, ℕ, zero, suc, ◌+◌, ◌-◌, ◌<◌, ◌≤◌, true, eqb, List, []}
+use Rattle.std.proofs.Common.{length, Option, Some, None, refl, sym, ◌∙◌, ap, subst, ◌⊎◌, arith}
 use Rattle.std.specs.Prelude.{count_by, filter, is_some, Contains}
 use Rattle.std.specs.Option.{option_or}
 use Rattle.std.proofs.lemmas.Bool.{and_parts, false≢true}
@@ -27,7 +27,7 @@ use Rattle.c62_meaning.proofs.CutWords.{from_map, drained_landed}
 use Rattle.c62_meaning.proofs.JoinedRuns.{nothing_landed, runs_later, landed_settles}
 use Rattle.c62_flight.specs.declared.stop.Stop.TheVariants.{Register as StopRegister}
 use Rattle.c62_flight.specs.Text.{Text, At, Outside, leads_to}
-use Rattle.c62_flight.specs.Issued.{Visit, Issued, goes_in, turn, issued_on}
+use Rattle.c62_flight.specs.Issued.{Visit, Issued, turn, issued_on}
 use Rattle.c62_flight.specs.Broken.{has_branched, two_branches, clash, broken}
 use Rattle.c62_flight.specs.Flight.{Leads, Flies}
 use Rattle.c62_flight.specs.Cut.{IsCut}
@@ -39,6 +39,7 @@ use Rattle.c62_flight.proofs.Told.{turn_told, clash_told}
 use Rattle.c62_flight.proofs.Straight.{leads_plain, leads_turning}
 use Rattle.c62_flight.proofs.OneBranch.{goes_to, filter_fewer, one_branch, any_target, exit_none, exit_some}
 use Rattle.c62_flight.proofs.OneBranch.{branch_length}
+use Rattle.std.proofs.lemmas.Bool.Decides.{nat_tests}
 
 -- ---- the block
 
@@ -116,9 +117,7 @@ module _ (text : Text) (block : Packed) (row count lead : ℕ) (laid : IsLaid te
           is_branching block.placed in omega arith
 
       few : (ps : List Placed) → length ps ≤ 1 → two_branches ps ≡ None
-      few [] l = refl
-      few (p ∷ []) l = refl
-      few (p ∷ q ∷ ps) l = absurd (omega arith)
+      few ps l = grind arith
 
   quiet : (c : ℕ) → broken issued c ≡ None
   quiet c =
@@ -138,12 +137,7 @@ module _ (text : Text) (block : Packed) (row count lead : ℕ) (laid : IsLaid te
 
   module _ (none : (p : Placed) → In p rows → (did p).target ≡ None) where
     turns_none : (c : ℕ) → turn issued c ≡ None
-    turns_none c = first_of-none (goes_in did c) rows (λ p h. ap (λ o. cond (eqb (p.cycle + 6) c) o None) (none p h)
-        ∙ same (eqb (p.cycle + 6) c))
-      where
-        same : (b : Bool) → cond {A = Option Target} b None None ≡ None
-        same true = refl
-        same false = refl
+    turns_none c = grind (arith, nat_tests, first_of-none)
 
     pub exit_plain : ran.exit ≡ Next
     exit_plain =
@@ -277,18 +271,7 @@ module _ (text : Text) (block : Packed) (row count lead : ℕ) (laid : IsLaid te
 
       pub flies_out : (word : ℕ) → leads_to text target ≡ Outside word → (more : ℕ)
           → Flies text row (branch.cycle + 6 + more) before (StopRegister word) (branch.cycle + 6) ran.machine
-      flies_out word is more =
-          let long : block.cycles ≡ lead + (branch.cycle + 6) = takes in
-          record {
-            path = straight text row 0 count;
-            did = did;
-            runs = runs (branch.cycle + 6 + 4) (omega arith);
-            last = Outside word;
-            end = branch.cycle + 6;
-            leads = subst (λ p. Leads text (branch.cycle + 6 + more) issued (At row) 0 (straight text row 0 count) p
-                (branch.cycle + 6)) is (leads_out more);
-            stops = inr (record { whole = quiet; ends = refl; told = refl });
-          }
+      flies_out word is more = grind (arith, takes, runs (branch.cycle + 6 + 4), leads_out more, quiet)
 
   pub any_branch : ((p : Placed) → In p rows → (did p).target ≡ None)
       ⊎ ((p : Placed) × (target : Target) × In p rows × ((did p).target ≡ Some target))

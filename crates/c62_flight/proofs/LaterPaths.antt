@@ -1,7 +1,7 @@
 -- Paths that go on, and paths so many cycles later.
 use Rattle.std.proofs.Common.{◌≡◌, ℕ, ◌+◌, ◌<◌, ◌≤◌, eqb, leb, List, [], ◌∷◌, ◌++◌, map, Some, refl, sym, ◌∙◌, ap}
-use Rattle.std.proofs.Common.{subst, inl, inr, ⊎_elim, arith}
-use Rattle.std.proofs.lemmas.Bool.{cases_lt, cases_eq, ne_eqb, eq-eqb, le-leb, lt-leb}
+use Rattle.std.proofs.Common.{subst, inl, inr, arith}
+use Rattle.std.proofs.lemmas.Bool.{le-leb, lt-leb}
 use Rattle.std.proofs.lemmas.Option.{none-some}
 use Rattle.std.proofs.lemmas.List.{map-append}
 use Rattle.c62_serial.specs.State.{Machine}
@@ -19,6 +19,7 @@ use Rattle.c62_flight.proofs.Fronts.{Late, Early, AreSameUntil, turn_same, over_
 use Rattle.c62_flight.proofs.Fronts.{ended_same}
 use Rattle.c62_flight.proofs.PathTimes.{in_visit, end_late}
 use Rattle.c62_flight.proofs.Stops.{lands_soon}
+use Rattle.std.proofs.lemmas.Bool.Decides.{nat_tests}
 
 -- ---- what is issued on a path is issued before it ends
 
@@ -26,17 +27,16 @@ pub path_early : (text : Text) (limit : ℕ) (issued : Issued) (position : Posit
     (last : Position) (end : ℕ)
     → Leads text limit issued position cycle path last end → Early end (issued_on text path)
 path_early text limit issued position cycle [] last end leads p h = absurd h
-path_early text limit issued position cycle (visit ∷ path) last end leads p h =
-    elim (In-append_cases p (issued_in text visit) (issued_on text path) h) [
-      | inl k ↦ (let e : p.cycle ≡ visit.start = in_visit text visit p k in
-          let u : visit.start < over_of text issued visit = over_later issued visit.start (row_of text visit.row).idle
-          in
-          let l : over_of text issued visit ≤ end
-          = end_late text limit issued (position_after text visit.row (turn issued (over_of text issued visit)))
-          (over_of text issued visit) path last end leads.1 in omega arith)
-      | inr k ↦ path_early text limit issued (position_after text visit.row (turn issued (over_of text issued visit)))
-          (over_of text issued visit) path last end leads.1 p k
-    ]
+path_early text limit issued position cycle (visit ∷ path) last end leads p h = grind (
+  arith,
+  path_early text limit issued (position_after text visit.row (turn issued (over_of text issued visit))) (over_of text
+      issued visit) path last end leads.1 p,
+  In-append_cases p (issued_in text visit) (issued_on text path) h,
+  in_visit text visit p,
+  over_later issued visit.start (row_of text visit.row).idle,
+  end_late text limit issued (position_after text visit.row (turn issued (over_of text issued visit))) (over_of text
+      issued visit) path last end leads.1,
+)
 
 -- and nothing behind a cycle that is broken
 path_unbroken : (text : Text) (limit : ℕ) (issued : Issued) (position : Position) (cycle : ℕ) (path : List Visit)
@@ -44,16 +44,14 @@ path_unbroken : (text : Text) (limit : ℕ) (issued : Issued) (position : Positi
     → Leads text limit issued position cycle path last end → broken issued c ≡ Some stop
     → Early (c + 1) (issued_on text path)
 path_unbroken text limit issued position cycle [] last end c stop leads e p h = absurd h
-path_unbroken text limit issued position cycle (visit ∷ path) last end c stop leads e p h =
-    elim (In-append_cases p (issued_in text visit) (issued_on text path) h) [
-      | inl k ↦ (let is : p.cycle ≡ visit.start = in_visit text visit p k in
-          let when : cycle ≡ visit.start = leads.0.when in
-          ⊎_elim {C = p.cycle < c + 1} (λ l. absurd (none-some stop (sym (leads.0.whole c l) ∙ e))) (λ l. omega arith)
-          (cases_lt c cycle))
-      | inr k ↦ path_unbroken text limit issued
-          (position_after text visit.row (turn issued (over_of text issued visit))) (over_of text issued visit) path
-          last end c stop leads.1 e p k
-    ]
+path_unbroken text limit issued position cycle (visit ∷ path) last end c stop leads e p h = grind (
+  arith,
+  path_unbroken text limit issued (position_after text visit.row (turn issued (over_of text issued visit))) (over_of
+      text issued visit) path last end c stop leads.1 e p,
+  In-append_cases p (issued_in text visit) (issued_on text path) h,
+  in_visit text visit p,
+  none-some stop,
+)
 
 issued_before : (text : Text) (first limit : ℕ) (opening : Machine) (stop : Stop) (cycles : ℕ) (final : Machine)
     (f : Flies text first limit opening stop cycles final) → Early cycles (issued_on text f.path)
@@ -121,9 +119,7 @@ pub leads_on : (text : Text) (limit : ℕ) (issued : Issued) (position middle : 
     (path others : List Visit) (last : Position) (end : ℕ)
     → Leads text limit issued position cycle path middle t → Leads text limit issued middle t others last end
     → Leads text limit issued position cycle (path ++ others) last end
-leads_on text limit issued position middle cycle t [] others last end one other =
-    subst (λ c. Leads text limit issued position c others last end) one.1
-    (subst (λ p. Leads text limit issued p t others last end) one.0 other)
+leads_on text limit issued position middle cycle t [] others last end one other = grind arith
 leads_on text limit issued position middle cycle t (visit ∷ path) others last end one other = (
   one.0,
   leads_on text limit issued (position_after text visit.row (turn issued (over_of text issued visit))) middle
@@ -142,27 +138,16 @@ insns_later k start (p ∷ ps) = ap (λ (qs : List Placed). issue_in (k + start)
 pub issued_later : (k : ℕ) (text : Text) (path : List Visit)
     → issued_on text (map (visit_later k) path) ≡ map (moved k) (issued_on text path)
 issued_later k text [] = refl
-issued_later k text (visit ∷ path) =
-    ap (λ (ps : List Placed). ps ++ issued_on text (map (visit_later k) path))
-    (insns_later k visit.start (row_of text visit.row).insns)
-    ∙ ap (λ (ps : List Placed). map (moved k) (issued_in text visit) ++ ps) (issued_later k text path)
-    ∙ sym (map-append (moved k) (issued_in text visit) (issued_on text path))
+issued_later k text (visit ∷ path) = grind (arith, nat_tests, issued_later k text path, insns_later, map-append)
 
 pub late_by : (k : ℕ) (ps : List Placed) → Late k (map (moved k) ps)
-late_by k ps p h =
-    let r = from_map (moved k) p ps h in
-    let c : k + r.0.cycle ≡ p.cycle = ap (λ (q : Placed). q.cycle) r.2 in omega arith
+late_by k ps p h = grind (arith, from_map (moved k) p ps h)
 
 pub eqb-both : (k a b : ℕ) → eqb (k + a) (k + b) ≡ eqb a b
-eqb-both k a b =
-    ⊎_elim {C = eqb (k + a) (k + b) ≡ eqb a b}
-    (λ e. eq-eqb _ _ (omega arith) ∙ sym (eq-eqb a b e)) (λ ne. ne_eqb _ _ (λ (e : k + a ≡ k + b). ne (omega arith))
-    ∙ sym (ne_eqb a b ne)) (cases_eq a b)
+eqb-both k a b = grind arith
 
 pub eqb-more : (k a d b : ℕ) → eqb (k + a + d) (k + b) ≡ eqb (a + d) b
 eqb-more k a d b = let e : k + a + d ≡ k + (a + d) = omega arith in ap (λ n. eqb n (k + b)) e ∙ eqb-both k (a + d) b
 
 pub leb-both : (k a b : ℕ) → leb (k + a) (k + b) ≡ leb a b
-leb-both k a b =
-    ⊎_elim {C = leb (k + a) (k + b) ≡ leb a b} (λ l. lt-leb _ _ (omega arith)
-    ∙ sym (lt-leb a b l)) (λ l. le-leb _ _ (omega arith) ∙ sym (le-leb a b l)) (cases_lt b a)
+leb-both k a b = grind (arith, lt-leb a b, le-leb a b)

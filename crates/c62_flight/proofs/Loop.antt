@@ -1,5 +1,5 @@
 -- A loop of one cycle, with six branches in flight, told by a table of what the registers hold in each cycle.
-use Rattle.std.proofs.Common.{◌≡◌, ℕ, ◌-◌, map, List, [], ◌∷◌, get_or, refl, subst, inl, inr, ⊎_elim}
+use Rattle.std.proofs.Common.{◌≡◌, ℕ, ◌-◌, map, List, [], ◌∷◌, get_or, refl, inr, ⊎_elim}
 use Rattle.std.specs.Prelude.{true, None}
 use Rattle.std.proofs.lemmas.Bool.{cases_lt}
 use Rattle.c62_op.specs.declared.register.Reg.{Reg}
@@ -17,13 +17,13 @@ use Rattle.c62_flight.proofs.Stops.{quiet}
 use Rattle.c62_flight.proofs.Flying.{flies_from}
 use Rattle.c62_flight.proofs.PathTimes.{Goes}
 use Rattle.c62_flight.proofs.RowTests.{none_below, none_at, early_by, leads_by}
+use Rattle.std.proofs.Common.{arith}
 
 -- where each of these does what it finds, so does one of them
 one_of_same : {X : Type 0} (f g : Placed → X) (p : Placed) (ps : List Placed) → map f ps ≡ map g ps → In p ps
     → f p ≡ g p
 one_of_same f g p [] e h = absurd h
-one_of_same f g p (q ∷ ps) e (inl same) = subst (λ (r : Placed). f r ≡ g r) same cc
-one_of_same f g p (q ∷ ps) e (inr later) = one_of_same f g p ps (cc) later
+one_of_same f g p (q ∷ ps) e h = grind (arith, one_of_same f g p ps)
 
 -- ---- the loop
 

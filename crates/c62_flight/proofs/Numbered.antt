@@ -1,6 +1,5 @@
 -- Texts that are the same but for the numbers of labels fly the same.
-use Rattle.std.proofs.Common.{◌≡◌, ℕ, suc, ◌+◌, List, [], sym, ◌∙◌, ap, inl, inr, arith}
-use Rattle.std.specs.Prelude.{is_some}
+use Rattle.std.proofs.Common.{◌≡◌, ℕ, suc, ◌+◌, List, [], sym, ◌∙◌, inl, inr, arith}
 use Rattle.std.proofs.lemmas.List.{append-nil}
 use Rattle.c62_serial.specs.State.{Machine}
 use Rattle.c62_packet.specs.declared.placed.Placed.{Placed}
@@ -63,18 +62,7 @@ by_run text first limit opening stop cycles final f did run = (
 
     stopped : Stops text limit (record { placed = issued_on text f.path; did = f.did }) f.last f.end stop cycles
         → Stops text limit (record { placed = issued_on text f.path; did = did }) f.last f.end stop cycles
-    stopped (inl b) =
-        inl (record {
-          cycle = b.cycle;
-          whole = λ c l. sym (broke c) ∙ b.whole c l;
-          breaks = sym (broke b.cycle) ∙ b.breaks;
-          seen = elim b.seen [
-            | inl l ↦ inl l
-            | inr e ↦ inr (ap is_some (sym ends) ∙ e)
-          ];
-          told = b.told;
-        })
-    stopped (inr e) = inr (record { whole = λ c. sym (broke c) ∙ e.whole c; ends = sym ends ∙ e.ends; told = e.told })
+    stopped h = grind (arith, broke, ends)
 
 pub fly_the_same : (text other : Text) → FlyTheSame text other
 fly_the_same text other same first limit opening stop cycles final f =

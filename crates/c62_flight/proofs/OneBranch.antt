@@ -1,108 +1,61 @@
 -- The one branch of a block that lies in rows, and how long the block takes.
-use Rattle.std.proofs.Common.{◌≡◌, ℕ, suc, ◌+◌, ◌≤◌, Bool, true, false, List, [], ◌∷◌, length, Option, Some, None, refl}
-use Rattle.std.proofs.Common.{sym, ◌∙◌, ap, subst, ◌⊎◌, inl, inr, ⊎_elim, arith}
-use Rattle.std.specs.Prelude.{fold, count_by, filter, find, if◌then◌else◌}
+use Rattle.std.proofs.Common.{◌≡◌, ℕ, ◌+◌, ◌≤◌, Bool, true, List, [], ◌∷◌, length, Option, Some, None, refl}
+use Rattle.std.proofs.Common.{sym, ◌∙◌, ap, subst, ◌⊎◌, inl, inr, arith}
+use Rattle.std.specs.Prelude.{fold, count_by, filter, find}
 use Rattle.std.specs.Option.{option_map_or}
-use Rattle.std.proofs.lemmas.Bool.{cases_Bool, cond-true, cond-false, false≢true}
-use Rattle.std.proofs.lemmas.Option.{none-some}
+use Rattle.std.proofs.lemmas.Bool.{false≢true}
 use Rattle.std.proofs.lemmas.List.Sums.{length-filter}
 use Rattle.c62_insn.specs.declared.effect.Target.TheVariants.{Block as ToBlock}
 use Rattle.c62_op.specs.declared.register.Reg.{Reg}
-use Rattle.c62_op.specs.declared.operands.Operands.{Operands}
-use Rattle.c62_op.specs.declared.operands.Operands.TheVariants.{Block as BlockOperand, Register as RegisterOperand}
+use Rattle.c62_op.specs.declared.operands.Operands.TheVariants.{Block as BlockOperand}
 use Rattle.c62_op.specs.Shape.{is_branch}
 use Rattle.c62_insn.specs.declared.effect.Target.{Target}
 use Rattle.c62_insn.specs.declared.insn.Insn.{Insn}
-use Rattle.c62_insn.specs.Effect.{target_of}
 use Rattle.c62_insn.specs.Insn.{op_of, operands_of}
 use Rattle.c62_rules.specs.PacketRules.{Issue}
 use Rattle.c62_rules.specs.Length.{last_landing_end}
 use Rattle.c62_serial.specs.declared.serial.Exit.{Exit}
-use Rattle.c62_serial.specs.Effect.{act_of, act_on, no_act, operand_values, runs as runs_now}
+use Rattle.c62_serial.specs.Effect.{act_of}
 use Rattle.c62_serial.specs.Serial.{exit_to, exit_after}
 use Rattle.c62_packet.specs.declared.placed.Placed.{Placed}
 use Rattle.c62_packet.specs.Packed.{Packed, issue_of, issues_of, is_branching, IsPacketBlock}
 use Rattle.c62_meaning.specs.Packet.{Did}
 use Rattle.c62_meaning.proofs.Lookup.{In}
 use Rattle.c62_flight.proofs.Told.{find_none, find_some}
+use Rattle.std.proofs.lemmas.Bool.Decides.{nat_tests}
 
 -- ---- one branch
 
 -- what goes to a block names it
 pub goes_to : (insn : Insn) (base : ℕ) (word : Reg → ℕ) (byte : ℕ → ℕ) (number : ℕ)
     → (act_of insn base word byte).target ≡ Some (ToBlock number) → operands_of insn ≡ BlockOperand number
-goes_to insn base word byte number h = either (runs_now word insn) h
-  where
-    of_operands : (operands : Operands) (reads : List ℕ) → target_of operands reads ≡ Some (ToBlock number)
-        → operands ≡ BlockOperand number
-    of_operands (BlockOperand n) reads e = cc
-    of_operands (RegisterOperand reg) reads e = cc
-    of_operands _ reads e = cc
-
-    either : (b : Bool) → (if b then act_on insn base (operand_values word insn) byte else no_act).target ≡ Some
-        (ToBlock number) → operands_of insn ≡ BlockOperand number
-    either true t = of_operands (operands_of insn) (operand_values word insn) t
-    either false t = absurd (none-some (ToBlock number) t)
+goes_to insn base word byte number h = grind (arith, nat_tests)
 
 none_counted : {X : Type 0} (f : X → Bool) (xs : List X) → length (filter f xs) ≤ 0 → (x : X) → In x xs → f x ≡ true → ⊥
 none_counted f [] l x h t = h
-none_counted f (y ∷ xs) l x (inl e) t =
-    let one : length (filter f (y ∷ xs)) ≡ suc (length (filter f xs)) = ap length
-    (cond-true (f y) (y ∷ filter f xs) (filter f xs) (subst (λ z. f z ≡ true) (sym e) t)) in omega arith
-none_counted f (y ∷ xs) l x (inr h) t =
-    ⊎_elim {C = ⊥}
-    (λ s. let one : length (filter f (y ∷ xs)) ≡ suc (length (filter f xs)) = ap length
-    (cond-true (f y) (y ∷ filter f xs) (filter f xs) s) in omega arith)
-    (λ s. none_counted f xs
-    (subst (λ (zs : List _). length zs ≤ 0) (cond-false (f y) (y ∷ filter f xs) (filter f xs) s) l) x h t)
-    (cases_Bool (f y))
+none_counted f (y ∷ xs) l x h t = grind (arith, none_counted f xs)
 
 -- behind one that counts none does
 rest_counted : {X : Type 0} (f : X → Bool) (x : X) (xs : List X) → length (filter f (x ∷ xs)) ≤ 1 → f x ≡ true
     → length (filter f xs) ≤ 0
-rest_counted f x xs l t = let one : length (filter f (x ∷ xs)) ≡ suc (length (filter f xs)) = ap length
-    (cond-true (f x) (x ∷ filter f xs) (filter f xs) t) in omega arith
+rest_counted f x xs l t = grind arith
 
 fewer_counted : {X : Type 0} (f : X → Bool) (x : X) (xs : List X) → length (filter f (x ∷ xs)) ≤ 1
     → length (filter f xs) ≤ 1
-fewer_counted f x xs l =
-    ⊎_elim {C = length (filter f xs) ≤ 1}
-    (λ t. let one : length (filter f (x ∷ xs)) ≡ suc (length (filter f xs)) = ap length
-    (cond-true (f x) (x ∷ filter f xs) (filter f xs) t) in omega arith)
-    (λ t. let one : length (filter f (x ∷ xs)) ≡ length (filter f xs) = ap length
-    (cond-false (f x) (x ∷ filter f xs) (filter f xs) t) in omega arith) (cases_Bool (f x))
+fewer_counted f x xs l = grind arith
 
 one_counted : {X : Type 0} (f : X → Bool) (xs : List X) → length (filter f xs) ≤ 1 → (x y : X) → In x xs → In y xs
     → f x ≡ true → f y ≡ true → x ≡ y
 one_counted f [] l x y h k s t = absurd h
 one_counted f (z ∷ xs) l x y (inl e) (inl e') s t = sym e ∙ e'
-one_counted f (z ∷ xs) l x y (inl e) (inr k) s t = absurd
-    (none_counted f xs (rest_counted f z xs l (subst (λ w. f w ≡ true) (sym e) s)) y k t)
-one_counted f (z ∷ xs) l x y (inr h) (inl e) s t = absurd
-    (none_counted f xs (rest_counted f z xs l (subst (λ w. f w ≡ true) (sym e) t)) x h s)
+one_counted f (z ∷ xs) l x y (inl e) (inr k) s t = grind (arith, none_counted f xs, rest_counted f z xs l)
+one_counted f (z ∷ xs) l x y (inr h) (inl e) s t = grind (arith, none_counted f xs, rest_counted f z xs l)
 one_counted f (z ∷ xs) l x y (inr h) (inr k) s t = one_counted f xs (fewer_counted f z xs l) x y h k s t
 
 pub filter_fewer : {X : Type 0} (f g : X → Bool) (xs : List X) → ((x : X) → In x xs → f x ≡ true → g x ≡ true)
     → length (filter f xs) ≤ length (filter g xs)
 filter_fewer f g [] h = omega arith
-filter_fewer f g (x ∷ xs) h =
-    let rest : length (filter f xs) ≤ length (filter g xs) = filter_fewer f g xs (λ y k. h y (inr k)) in
-    ⊎_elim {C = length (filter f (x ∷ xs)) ≤ length (filter g (x ∷ xs))}
-    (λ t.
-    let one : length (filter f (x ∷ xs)) ≡ suc (length (filter f xs)) = ap length
-    (cond-true (f x) (x ∷ filter f xs) (filter f xs) t) in
-    let other : length (filter g (x ∷ xs)) ≡ suc (length (filter g xs)) = ap length
-    (cond-true (g x) (x ∷ filter g xs) (filter g xs) (h x (inl refl) t)) in omega arith)
-    (λ t.
-    let one : length (filter f (x ∷ xs)) ≡ length (filter f xs) = ap length
-    (cond-false (f x) (x ∷ filter f xs) (filter f xs) t) in
-    ⊎_elim {C = length (filter f (x ∷ xs)) ≤ length (filter g (x ∷ xs))}
-    (λ u. let other : length (filter g (x ∷ xs)) ≡ suc (length (filter g xs)) = ap length
-    (cond-true (g x) (x ∷ filter g xs) (filter g xs) u) in omega arith)
-    (λ u. let other : length (filter g (x ∷ xs)) ≡ length (filter g xs) = ap length
-    (cond-false (g x) (x ∷ filter g xs) (filter g xs) u) in omega arith)
-    (cases_Bool (g x)))
-    (cases_Bool (f x))
+filter_fewer f g (x ∷ xs) h = grind (arith, filter_fewer f g xs)
 
 pub one_branch : (block : Packed) (p q : Placed) → IsPacketBlock block → In p block.placed → In q block.placed
     → is_branching p ≡ true → is_branching q ≡ true → p ≡ q
@@ -130,9 +83,7 @@ any_target did (q ∷ ps) = by_head (did q).target refl (any_target did ps)
 pub exit_none : (did : Did) (ps : List Placed) (exit : Exit) → ((p : Placed) → In p ps → (did p).target ≡ None)
     → fold (λ exit p. exit_after exit (did p).target) exit ps ≡ exit
 exit_none did [] exit h = refl
-exit_none did (p ∷ ps) exit h =
-    ap (λ o. fold (λ exit p. exit_after exit (did p).target) (exit_after exit o) ps) (h p (inl refl))
-    ∙ exit_none did ps exit (λ q k. h q (inr k))
+exit_none did (p ∷ ps) exit h = grind (arith, exit_none did ps exit)
 
 -- all that go somewhere go there
 exit_kept : (did : Did) (ps : List Placed) (target : Target)
@@ -171,8 +122,7 @@ In-issues (p ∷ ps) i (inr h) = let r = In-issues ps i h in (r.0, inr r.1, r.2)
 
 to_issues : (ps : List Placed) (p : Placed) → In p ps → In (issue_of p) (issues_of ps)
 to_issues [] p h = absurd h
-to_issues (q ∷ ps) p (inl e) = inl (ap issue_of e)
-to_issues (q ∷ ps) p (inr h) = inr (to_issues ps p h)
+to_issues (q ∷ ps) p h = grind (arith, to_issues ps p)
 
 -- with a branch it takes its six cycles more
 pub branch_length : (block : Packed) (p : Placed) → IsPacketBlock block → In p block.placed → is_branching p ≡ true

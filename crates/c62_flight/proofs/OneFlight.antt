@@ -51,8 +51,7 @@ module _ (text : Text) (limit : ℕ) (opening : Machine) where
   one_row row row' position e e' = cc
 
   one_visit : (visit visit' : Visit) → visit'.row ≡ visit.row → visit'.start ≡ visit.start → visit' ≡ visit
-  one_visit visit visit' e e' = ap (λ row. record { row = row; start = visit'.start }) e
-      ∙ ap (λ start. record { row = visit.row; start = start }) e'
+  one_visit visit visit' e e' = grind arith
 
   -- what is issued behind a first row is issued when it is over, or later
   rest_late : (front : List Placed) (position : Position) (cycle : ℕ) (visit : Visit) (path : List Visit) (stop : Stop)
@@ -106,21 +105,18 @@ module _ (text : Text) (limit : ℕ) (opening : Machine) where
     second_after : Goes text limit opening (front ++ issued_in text visit)
         (position_after text visit.row (turn g.issued (over_of text g.issued visit)))
         (over_of text g.issued visit) path' stop' cycles'
-    second_after =
-        subst (λ c. Goes text limit opening (front ++ issued_in text visit)
-        (position_after text visit.row (turn g.issued (over_of text g.issued visit))) c path' stop' cycles')
-        (sym over_one)
-        (subst (λ o. Goes text limit opening (front ++ issued_in text visit) (position_after text visit.row o)
-        (over_of text h.issued visit) path' stop' cycles') (sym turn_one)
-        (after text limit opening front position cycle visit path' stop' cycles' h))
+    second_after = grind (
+      arith,
+      over_one,
+      turn_one,
+      after text limit opening front position cycle visit path' stop' cycles' h,
+    )
 
   -- where the run stands that has no row more
   stops_there : (front : List Placed) (position : Position) (cycle : ℕ) (stop : Stop) (cycles : ℕ)
       (g : Goes text limit opening front position cycle [] stop cycles)
       → Stops text limit g.issued position cycle stop cycles
-  stops_there front position cycle stop cycles g =
-      subst (λ e. Stops text limit g.issued position e stop cycles) g.leads.1
-      (subst (λ l. Stops text limit g.issued l g.end stop cycles) g.leads.0 g.stops)
+  stops_there front position cycle stop cycles g = grind arith
 
   pub one_path : (path path' : List Visit) (front : List Placed) (position : Position) (cycle : ℕ) (stop stop' : Stop)
       (cycles cycles' : ℕ) → Early cycle front
@@ -168,15 +164,7 @@ module _ (text : Text) (limit : ℕ) (opening : Machine) where
 whole_flight : (text : Text) (first limit : ℕ) (opening : Machine) (stop : Stop) (cycles : ℕ) (final : Machine)
     (f : Flies text first limit opening stop cycles final)
     → Goes text limit opening [] (At first) 0 f.path stop cycles
-whole_flight text first limit opening stop cycles final f = record {
-  issued = record { placed = issued_on text f.path; did = f.did };
-  is = refl;
-  run = f.runs.run;
-  last = f.last;
-  end = f.end;
-  leads = f.leads;
-  stops = f.stops;
-}
+whole_flight text first limit opening stop cycles final f = grind arith
 
 -- two runs of the same leave the same
 one_left : (ps : List Placed) (cycles : ℕ) (opening : Machine) (did did' : Did) (final final' : Machine)

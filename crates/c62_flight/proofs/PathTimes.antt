@@ -1,9 +1,7 @@
 -- When what is on a path is issued, and the run behind some cycle.
-use Rattle.std.proofs.Common.{◌≡◌, ℕ, ◌+◌, ◌<◌, ◌≤◌, List, [], ◌∷◌, ◌++◌, map, Some, None, sym, ◌∙◌, ap, inl, inr}
+use Rattle.std.proofs.Common.{◌≡◌, ℕ, ◌<◌, ◌≤◌, List, [], ◌∷◌, ◌++◌, map, sym, ◌∙◌, inl, inr}
 use Rattle.std.proofs.Common.{arith}
-use Rattle.std.specs.Prelude.{is_some, IsTrue, Option}
-use Rattle.std.proofs.lemmas.Bool.{cases_order, false≢true}
-use Rattle.std.proofs.lemmas.Option.{none-some, same_Some}
+use Rattle.std.proofs.lemmas.Option.{none-some}
 use Rattle.std.proofs.lemmas.List.{append_assoc}
 use Rattle.c62_serial.specs.State.{Machine}
 use Rattle.c62_packet.specs.declared.placed.Placed.{Placed}
@@ -20,8 +18,7 @@ use Rattle.c62_flight.proofs.Fronts.{Late, AreSameUntil, over_later, broken_same
 
 in_map : (cycle : ℕ) (ps : List Placed) (p : Placed) → In p (map (issue_in cycle) ps) → p.cycle ≡ cycle
 in_map cycle [] p h = absurd h
-in_map cycle (q ∷ ps) p (inl e) = ap (λ (r : Placed). r.cycle) (sym e)
-in_map cycle (q ∷ ps) p (inr h) = in_map cycle ps p h
+in_map cycle (q ∷ ps) p h = grind (arith, in_map cycle ps p)
 
 pub in_visit : (text : Text) (visit : Visit) (p : Placed) → In p (issued_in text visit) → p.cycle ≡ visit.start
 in_visit text visit p h = in_map visit.start (row_of text visit.row).insns p h
@@ -30,16 +27,14 @@ pub path_late : (text : Text) (limit : ℕ) (issued : Issued) (position : Positi
     (last : Position) (end : ℕ)
     → Leads text limit issued position cycle path last end → Late cycle (issued_on text path)
 path_late text limit issued position cycle [] last end leads p h = absurd h
-path_late text limit issued position cycle (visit ∷ path) last end leads p h =
-    let when : cycle ≡ visit.start = leads.0.when in
-    elim (In-append_cases p (issued_in text visit) (issued_on text path) h) [
-      | inl k ↦ (let e : p.cycle ≡ visit.start = in_visit text visit p k in omega arith)
-      | inr k ↦ (let l : over_of text issued visit ≤ p.cycle
-          = path_late text limit issued (position_after text visit.row (turn issued (over_of text issued visit)))
-          (over_of text issued visit) path last end leads.1 p k in
-          let u : visit.start < over_of text issued visit = over_later issued visit.start (row_of text visit.row).idle
-          in omega arith)
-    ]
+path_late text limit issued position cycle (visit ∷ path) last end leads p h = grind (
+  arith,
+  path_late text limit issued (position_after text visit.row (turn issued (over_of text issued visit))) (over_of text
+      issued visit) path last end leads.1 p,
+  In-append_cases p (issued_in text visit) (issued_on text path) h,
+  in_visit text visit p,
+  over_later issued visit.start (row_of text visit.row).idle,
+)
 
 pub end_late : (text : Text) (limit : ℕ) (issued : Issued) (position : Position) (cycle : ℕ) (path : List Visit)
     (last : Position) (end : ℕ)
@@ -73,15 +68,10 @@ pub after : (text : Text) (limit : ℕ) (opening : Machine) (front : List Placed
     → Goes text limit opening (front ++ issued_in text visit)
     (position_after text visit.row (turn g.issued (over_of text g.issued visit))) (over_of text g.issued visit)
     path stop cycles
-after text limit opening front position cycle visit path stop cycles g = record {
-  issued = g.issued;
-  is = g.is ∙ sym (append_assoc front (issued_in text visit) (issued_on text path));
-  run = g.run;
-  last = g.last;
-  end = g.end;
-  leads = g.leads.1;
-  stops = g.stops;
-}
+after text limit opening front position cycle visit path stop cycles g = grind (
+  arith,
+  append_assoc front (issued_in text visit) (issued_on text path),
+)
 
 -- ---- one stop
 
@@ -91,36 +81,18 @@ pub stops_one : (text : Text) (limit : ℕ) (one other : Issued) (last : Positio
     → ((c : ℕ) → broken one c ≡ broken other c) → ended text limit one last end ≡ ended text limit other last end
     → Stops text limit one last end stop cycles → Stops text limit other last end stop' cycles' → (stop ≡ stop')
     × (cycles ≡ cycles')
-stops_one text limit one other last end stop stop' cycles cycles' same ends (inl a) (inl b) =
-    elim (cases_order a.cycle b.cycle) [
-      | inl e ↦ (
-        same_Some stop stop' (sym a.breaks ∙ same a.cycle ∙ ap (λ c. broken other c) e ∙ b.breaks),
-        a.told ∙ ap (λ c. c + 1) e ∙ sym b.told,
-      )
-      | inr (inl l) ↦ absurd (none-some stop (sym (b.whole a.cycle l) ∙ sym (same a.cycle) ∙ a.breaks))
-      | inr (inr l) ↦ absurd (none-some stop' (sym (a.whole b.cycle l) ∙ same b.cycle ∙ b.breaks))
-    ]
-stops_one text limit one other last end stop stop' cycles cycles' same ends (inl a) (inr b) =
-    absurd (none-some stop (sym (b.whole a.cycle) ∙ sym (same a.cycle) ∙ a.breaks))
-stops_one text limit one other last end stop stop' cycles cycles' same ends (inr a) (inl b) =
-    absurd (none-some stop' (sym (a.whole b.cycle) ∙ same b.cycle ∙ b.breaks))
-stops_one text limit one other last end stop stop' cycles cycles' same ends (inr a) (inr b) =
-    (same_Some stop stop' (sym a.ends ∙ ends ∙ b.ends), a.told ∙ sym b.told)
+stops_one text limit one other last end stop stop' cycles cycles' same ends h k = grind arith
 
 -- a run that goes on is not stopped there
 pub goes_on_past : (text : Text) (limit : ℕ) (one other : Issued) (position : Position) (cycle : ℕ) (visit : Visit)
     (stop : Stop) (cycles : ℕ)
     → AreSameUntil cycle one other → Begins text limit one position cycle visit
     → Stops text limit other position cycle stop cycles → ⊥
-goes_on_past text limit one other position cycle visit stop cycles same begins (inl b) =
-    elim b.seen [
-      | inl l ↦ none-some stop (sym (begins.whole b.cycle l) ∙ broken_same cycle b.cycle one other same l ∙ b.breaks)
-      | inr ends ↦ not_ended (ended text limit other position cycle) (sym begins.on
-          ∙ ended_same text limit cycle cycle one other position same (omega arith)) ends
-    ]
-  where
-    not_ended : (o : Option Stop) → None ≡ o → IsTrue (is_some o) → ⊥
-    not_ended None e t = false≢true t
-    not_ended (Some stop) e t = none-some stop e
+goes_on_past text limit one other position cycle visit stop cycles same begins (inl b) = grind (
+  arith,
+  none-some stop,
+  broken_same cycle b.cycle one other same,
+  ended_same text limit cycle cycle one other position same,
+)
 goes_on_past text limit one other position cycle visit stop cycles same begins (inr e) =
     none-some stop (sym begins.on ∙ ended_same text limit cycle cycle one other position same (omega arith) ∙ e.ends)

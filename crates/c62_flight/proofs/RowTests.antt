@@ -1,9 +1,9 @@
 -- Tests that say of the rows of a text how it flies.
-use Rattle.std.proofs.Common.{◌≡◌, ℕ, zero, suc, ◌+◌, ◌<◌, ◌≤◌, Bool, true, ◌&&◌, List, [], ◌∷◌, Option, Some, None}
-use Rattle.std.proofs.Common.{refl, ◌∙◌, ap, subst, ◌⊎◌, inl, inr, ⊎_elim, arith}
+use Rattle.std.proofs.Common.{◌≡◌, ℕ, zero, suc, ◌+◌, ◌<◌, Bool, true, ◌&&◌, List, [], ◌∷◌, Option, Some, None}
+use Rattle.std.proofs.Common.{refl, ◌⊎◌, inl, inr, ⊎_elim, arith}
 use Rattle.std.specs.Prelude.{is_some, is_none, nat_lt, nat_le}
 use Rattle.std.specs.List.{list_all}
-use Rattle.std.proofs.lemmas.Bool.{and_parts, ltb-true, leb-true, cases_order, cases_lt}
+use Rattle.std.proofs.lemmas.Bool.{cases_lt}
 use Rattle.c62_serial.specs.State.{Machine, IsSound}
 use Rattle.c62_packet.specs.declared.placed.Placed.{Placed}
 use Rattle.c62_meaning.specs.Meaning.{LeavesState}
@@ -19,6 +19,7 @@ use Rattle.c62_flight.proofs.Stops.{quiet}
 use Rattle.c62_flight.proofs.Flying.{flies_from}
 use Rattle.c62_flight.proofs.PathTimes.{Goes}
 use Rattle.c62_flight.proofs.Underway.{on_path}
+use Rattle.std.proofs.lemmas.Bool.Decides.{nat_tests}
 
 -- ---- tests
 
@@ -27,23 +28,15 @@ none_below f zero = true
 none_below f (suc n) = is_none (f n) && none_below f n
 
 is_none-none : (o : Option Stop) → is_none o ≡ true → o ≡ None
-is_none-none None e = refl
-is_none-none (Some stop) e = cc
+is_none-none o e = grind arith
 
 pub none_at : (f : ℕ → Option Stop) (n c : ℕ) → none_below f n ≡ true → c < n → f c ≡ None
 none_at f zero c e l = absurd (omega arith)
-none_at f (suc n) c e l =
-    let b = and_parts (is_none (f n)) (none_below f n) e in
-    elim (cases_order c n) [
-      | inl s ↦ ap f s ∙ is_none-none (f n) b.0
-      | inr (inl u) ↦ none_at f n c b.1 u
-      | inr (inr u) ↦ absurd (omega arith)
-    ]
+none_at f (suc n) c e l = grind (arith, none_at f n c, is_none-none (f n))
 
 pub early_by : (end : ℕ) (ps : List Placed) → list_all (λ p. nat_lt p.cycle end) ps ≡ true → Early end ps
 early_by end [] e p h = absurd h
-early_by end (q ∷ ps) e p (inl s) = subst (λ (r : Placed). r.cycle < end) s (ltb-true _ _ (and_parts _ _ e).0)
-early_by end (q ∷ ps) e p (inr h) = early_by end ps (and_parts _ _ e).1 p h
+early_by end (q ∷ ps) e p h = grind (arith, nat_tests, early_by end ps)
 
 -- `Leads`, without its whole cycles
 abbrev pub Steps : Text → ℕ → Issued → Position → ℕ → List Visit → Position → ℕ → Type 0
@@ -58,16 +51,11 @@ pub leads_by : (text : Text) (limit : ℕ) (issued : Issued) (position : Positio
     → list_all (λ (v : Visit). nat_le v.start most) path ≡ true → Steps text limit issued position cycle path last end
     → Leads text limit issued position cycle path last end
 leads_by text limit issued position cycle [] last end most whole starts steps = steps
-leads_by text limit issued position cycle (visit ∷ path) last end most whole starts steps = (
-  record {
-    there = steps.0.0;
-    when = steps.0.1;
-    on = steps.0.2;
-    whole = λ c l. (let u : visit.start ≤ most = leb-true visit.start most (and_parts _ _ starts).0 in let e : cycle ≡
-        visit.start = steps.0.1 in whole c (omega arith));
-  },
-  leads_by text limit issued (position_after text visit.row (turn issued (over_of text issued visit)))
-      (over_of text issued visit) path last end most whole (and_parts _ _ starts).1 steps.1,
+leads_by text limit issued position cycle (visit ∷ path) last end most whole starts steps = grind (
+  arith,
+  nat_tests,
+  leads_by text limit issued (position_after text visit.row (turn issued (over_of text issued visit))) (over_of text
+      issued visit) path last end most whole,
 )
 
 -- a path that ends

@@ -1,8 +1,6 @@
 -- A flight that is over where it begins.
-use Rattle.std.proofs.Common.{◌≡◌, ℕ, ◌<◌, ◌≤◌, Bool, false, ◌||◌, cond, [], length, Some, None, refl}
-use Rattle.std.proofs.Common.{ap, inr, arith}
-use Rattle.std.specs.Prelude.{nat_le}
-use Rattle.std.proofs.lemmas.Bool.{lt-ltb, le-ltb}
+use Rattle.std.proofs.Common.{◌≡◌, ℕ, ◌<◌, ◌≤◌, [], length, Some, refl}
+use Rattle.std.proofs.Common.{inr, arith}
 use Rattle.c62_serial.specs.State.{Machine, IsSound}
 use Rattle.c62_serial.specs.Effect.{no_act}
 use Rattle.c62_meaning.proofs.JoinedRuns.{runs_nothing}
@@ -28,14 +26,8 @@ stays text row limit machine stop sound e = record {
 
 pub stays_behind : (text : Text) (row limit : ℕ) (machine : Machine) → IsSound machine → length text.rows ≤ row
     → Flies text row limit machine End 0 machine
-stays_behind text row limit machine sound l =
-    stays text row limit machine End sound
-    (ap (λ (b : Bool). cond (b || false) (cond (nat_le limit 0) (Some Limit) None) (Some End))
-    (le-ltb row (length text.rows) l))
+stays_behind text row limit machine sound l = grind (arith, stays text row limit machine End sound)
 
 pub stays_limited : (text : Text) (row : ℕ) (machine : Machine) → IsSound machine → row < length text.rows
     → Flies text row 0 machine Limit 0 machine
-stays_limited text row machine sound l =
-    stays text row 0 machine Limit sound
-    (ap (λ (b : Bool). cond (b || false) (cond (nat_le 0 0) (Some Limit) None) (Some End))
-    (lt-ltb row (length text.rows) l))
+stays_limited text row machine sound l = grind (arith, stays text row 0 machine Limit sound)

@@ -1,17 +1,15 @@
 -- Paths of rows one behind the other.
-use Rattle.std.proofs.Common.{◌≡◌, ℕ, zero, suc, ◌+◌, ◌<◌, ◌≤◌, ltb, length, Some, None, refl, sym, ◌∙◌, ap, subst, inl}
+use Rattle.std.proofs.Common.{◌≡◌, ℕ, zero, suc, ◌+◌, ◌<◌, ◌≤◌, length, Some, None, refl, sym, ◌∙◌, ap, subst, inl}
 use Rattle.std.proofs.Common.{inr, arith}
-use Rattle.std.specs.List.{list_any}
-use Rattle.std.proofs.lemmas.Bool.{cond-true, cond-false, lt-ltb, lt-leb, or_left}
 use Rattle.c62_insn.specs.declared.effect.Target.{Target}
 use Rattle.c62_meaning.proofs.Lookup.{In}
-use Rattle.c62_flight.specs.declared.stop.Stop.TheVariants.{End, Limit}
 use Rattle.c62_flight.specs.Text.{Text, At, row_of, position_after, leads_to}
-use Rattle.c62_flight.specs.Issued.{Visit, Issued, turn, over, is_in_flight}
+use Rattle.c62_flight.specs.Issued.{Visit, Issued, turn, over}
 use Rattle.c62_flight.specs.Broken.{broken}
 use Rattle.c62_flight.specs.Flight.{Begins, Leads}
 use Rattle.c62_flight.specs.Laid.{straight, straight_end}
 use Rattle.c62_flight.proofs.Told.{turn_told, over_told}
+use Rattle.std.proofs.lemmas.Bool.Decides.{nat_tests}
 
 pub end_later : (text : Text) (row start count : ℕ) → start ≤ straight_end text row start count
 end_later text row start zero = omega arith
@@ -22,15 +20,7 @@ end_later text row start (suc count) =
 module _ (text : Text) (limit : ℕ) (issued : Issued) (quiet : (c : ℕ) → broken issued c ≡ None) where
   begins_at : (row start : ℕ) → row < length text.rows → start < limit
       → Begins text limit issued (At row) start (record { row = row; start = start })
-  begins_at row start inside below = record {
-    there = refl;
-    when = refl;
-    on = cond-true _ _ (Some End)
-        (or_left (ltb row (length text.rows)) (list_any (is_in_flight issued.did start) issued.placed)
-        (lt-ltb row (length text.rows) inside))
-        ∙ cond-false _ (Some Limit) None (lt-leb limit start below);
-    whole = λ c _. quiet c;
-  }
+  begins_at row start inside below = grind (arith, nat_tests)
 
   -- where no branch takes effect
   pub leads_plain : ((c : ℕ) → turn issued c ≡ None) → (row start count : ℕ) → row + count ≤ length text.rows

@@ -1,12 +1,12 @@
 -- What takes effect, when a row is over, what clashes and where words lead.
 use Rattle.std.proofs.Common.{◌≡◌, ℕ, zero, suc, ◌+◌, ◌<◌, ◌≤◌, Bool, true, false, ◌&&◌, eqb, length, List, [], ◌∷◌}
-use Rattle.std.proofs.Common.{Option, Some, None, refl, sym, ◌∙◌, ap, subst, ◌⊎◌, inl, inr, ⊎_elim, arith}
+use Rattle.std.proofs.Common.{Option, Some, None, refl, sym, ◌∙◌, ap, subst, inl, inr, ⊎_elim, arith}
 use Rattle.std.specs.Prelude.{◌==◌, nat_le, Contains, slice_get, is_some, find, option_map}
 use Rattle.std.specs.List.{list_any}
 use Rattle.std.specs.Option.{option_or}
 use Rattle.std.proofs.lemmas.Bool.Decides.{nat_tests}
 use Rattle.std.proofs.lemmas.Bool.{cases_Bool, cases_eq, cases_order, cond-true, cond-false, and_parts, and_from}
-use Rattle.std.proofs.lemmas.Bool.{or_left, or_right, or_cases, eq-eqb, eqb-true, leb-true, false≢true}
+use Rattle.std.proofs.lemmas.Bool.{eq-eqb, eqb-true, leb-true, false≢true}
 use Rattle.std.proofs.lemmas.Option.{none-some, same_Some}
 use Rattle.c62_op.specs.declared.register.Reg.{Reg}
 use Rattle.c62_op.specs.Takes.{same_reg}
@@ -27,37 +27,23 @@ use Rattle.c62_flight.proofs.Lists.{first_of-none}
 
 -- ---- the first that there is
 
-some_head : {Y : Type 0} (o rest : Option Y) (y : Y) → option_or o rest ≡ Some y → (o ≡ Some y) ⊎ (rest ≡ Some y)
-some_head None rest y e = inr e
-some_head (Some z) rest y e = inl e
-
 none_parts : {Y : Type 0} (o rest : Option Y) → option_or o rest ≡ None → (o ≡ None) × (rest ≡ None)
-none_parts None rest e = (refl, e)
-none_parts (Some z) rest e = absurd (none-some z (sym e))
+none_parts o rest e = grind (arith, nat_tests)
 
 first_some : {X Y : Type 0} (f : X → Option Y) (xs : List X) (y : Y) → first_of f xs ≡ Some y → (x : X) × In x xs
     × (f x ≡ Some y)
 first_some f [] y e = absurd (none-some y e)
-first_some f (x ∷ xs) y e =
-    elim (some_head (f x) (first_of f xs) y e) [
-      | inl h ↦ (x, inl refl, h)
-      | inr h ↦ (let r = first_some f xs y h in (r.0, inr r.1, r.2))
-    ]
+first_some f (x ∷ xs) y e = grind (arith, nat_tests, first_some f xs y)
 
 first_none : {X Y : Type 0} (f : X → Option Y) (xs : List X) → first_of f xs ≡ None → (x : X) → In x xs → f x ≡ None
 first_none f [] e x h = absurd h
-first_none f (y ∷ xs) e x (inl s) = subst (λ z. f z ≡ None) s (none_parts (f y) (first_of f xs) e).0
-first_none f (y ∷ xs) e x (inr h) = first_none f xs (none_parts (f y) (first_of f xs) e).1 x h
+first_none f (y ∷ xs) e x h = grind (arith, first_none f xs (none_parts (f y) (first_of f xs) e).1 x)
 
 -- ---- what turns
 
 goes_when : (did : Did) (cycle : ℕ) (p : Placed) (target : Target) → goes_in did cycle p ≡ Some target
     → (p.cycle + 6 ≡ cycle) × ((did p).target ≡ Some target)
-goes_when did cycle p target e =
-    ⊎_elim {C = (p.cycle + 6 ≡ cycle) × ((did p).target ≡ Some target)}
-    (λ t. (eqb-true (p.cycle + 6) cycle t, sym (cond-true _ _ _ t) ∙ e))
-    (λ t. absurd (none-some target (sym (cond-false _ _ _ t) ∙ e)))
-    (cases_Bool (eqb (p.cycle + 6) cycle))
+goes_when did cycle p target e = grind (arith, none-some target)
 
 pub turn_told : (issued : Issued) (cycle : ℕ) → TurnIsTold issued cycle
 turn_told issued cycle = record {
@@ -75,12 +61,7 @@ turn_told issued cycle = record {
 -- ---- when a row is over
 
 over_is : (issued : Issued) (start idle : ℕ) → IsOverIn issued start idle (over issued start idle)
-over_is issued start zero = record {
-  later = omega arith;
-  within = omega arith;
-  straight = λ c t l u h. absurd (omega arith);
-  reached = inl (omega arith);
-}
+over_is issued start zero = grind (arith, nat_tests)
 over_is issued start (suc idle) = by_turn (turn issued (start + 1)) refl (over_is issued (start + 1) idle)
   where
     by_turn : (o : Option Target) → turn issued (start + 1) ≡ o
@@ -123,29 +104,22 @@ over_alone issued start idle end end' h h' l =
     ]
 
 pub over_told : (issued : Issued) (start idle : ℕ) → OverIsTold issued start idle
-over_told issued start idle end = (
-  (λ h. elim (cases_order end (over issued start idle)) [
-    | inl e ↦ e
-    | inr (inl l) ↦ absurd (over_alone issued start idle end (over issued start idle) h (over_is issued start idle) l)
-    | inr (inr l) ↦ absurd (over_alone issued start idle (over issued start idle) end (over_is issued start idle) h l)
-  ]),
-  (λ e. subst (λ z. IsOverIn issued start idle z) (sym e) (over_is issued start idle)),
+over_told issued start idle end = grind (
+  arith,
+  over_alone issued start idle end (over issued start idle),
+  over_is issued start idle,
+  over_alone issued start idle (over issued start idle) end (over_is issued start idle),
 )
 
 -- ---- what clashes
 
 any_from : {X : Type 0} (f : X → Bool) (xs : List X) (x : X) → In x xs → f x ≡ true → list_any f xs ≡ true
 any_from f [] x h e = absurd h
-any_from f (y ∷ xs) x (inl s) e = or_left _ _ (subst (λ z. f z ≡ true) (sym s) e)
-any_from f (y ∷ xs) x (inr h) e = or_right _ _ (any_from f xs x h e)
+any_from f (y ∷ xs) x h e = grind (arith, any_from f xs x)
 
 from_any : {X : Type 0} (f : X → Bool) (xs : List X) → list_any f xs ≡ true → (x : X) × In x xs × (f x ≡ true)
 from_any f [] e = absurd (false≢true e)
-from_any f (x ∷ xs) e =
-    elim (or_cases (f x) (list_any f xs) e) [
-      | inl h ↦ (x, inl refl, h)
-      | inr h ↦ (let r = from_any f xs h in (r.0, inr r.1, r.2))
-    ]
+from_any f (x ∷ xs) e = grind (arith, from_any f xs)
 
 lands_from : (did : Did) (p : Placed) (reg : Reg) (cycle : ℕ) → HasLanded did p reg cycle
     → lands_in did reg cycle p ≡ true
@@ -170,27 +144,19 @@ landed_by did p reg cycle e =
 
 find_parts : {X : Type 0} (f : X → Bool) (x : X) (xs : List X) → find f (x ∷ xs) ≡ None → (f x ≡ false)
     × (find f xs ≡ None)
-find_parts f x xs e =
-    ⊎_elim {C = (f x ≡ false) × (find f xs ≡ None)}
-    (λ t. absurd (none-some x (sym e ∙ cond-true _ _ _ t))) (λ t. (t, sym (cond-false _ _ _ t) ∙ e)) (cases_Bool (f x))
+find_parts f x xs e = grind (arith, none-some x)
 
 pub find_none : {X : Type 0} (f : X → Bool) (xs : List X) → find f xs ≡ None → (x : X) → In x xs → f x ≡ false
 find_none f [] e x h = absurd h
-find_none f (y ∷ xs) e x (inl s) = subst (λ z. f z ≡ false) s (find_parts f y xs e).0
-find_none f (y ∷ xs) e x (inr h) = find_none f xs (find_parts f y xs e).1 x h
+find_none f (y ∷ xs) e x h = grind (arith, find_none f xs (find_parts f y xs e).1 x)
 
 pub find_some : {X : Type 0} (f : X → Bool) (xs : List X) (x : X) → find f xs ≡ Some x → In x xs × (f x ≡ true)
 find_some f [] x e = absurd (none-some x e)
-find_some f (y ∷ xs) x e =
-    ⊎_elim {C = In x (y ∷ xs) × (f x ≡ true)}
-    (λ t. let s : y ≡ x = same_Some y x (sym (cond-true _ _ _ t) ∙ e) in (inl s, subst (λ z. f z ≡ true) s t))
-    (λ t. let r : In x xs × (f x ≡ true) = find_some f xs x (sym (cond-false _ _ _ t) ∙ e) in (inr r.0, r.1))
-    (cases_Bool (f y))
+find_some f (y ∷ xs) x e = grind (arith, find_some f xs x, same_Some y x)
 
 at_place : {X : Type 0} (xs : List X) (i : ℕ) (x : X) → slice_get xs i ≡ Some x → In x xs
 at_place [] i x e = absurd (none-some x e)
-at_place (y ∷ xs) zero x e = inl (same_Some y x e)
-at_place (y ∷ xs) (suc i) x e = inr (at_place xs i x e)
+at_place (y ∷ xs) i x e = grind (arith, at_place xs)
 
 place_of : {X : Type 0} (xs : List X) (x : X) → In x xs → (i : ℕ) × (slice_get xs i ≡ Some x)
 place_of [] x h = absurd h
@@ -211,8 +177,7 @@ none_met did cycle p others reg q e first h second =
     h) ∙ lands_from did q reg cycle second)
   where
     unmapped : (o : Option Placed) → option_map (λ (q : Placed). Clash reg p.line q.line) o ≡ None → o ≡ None
-    unmapped None e = refl
-    unmapped (Some q) e = absurd (none-some _ (sym e))
+    unmapped o e = grind (arith, nat_tests)
 
 no_pair : (did : Did) (cycle : ℕ) (placed : List Placed) (i j : ℕ) (p q : Placed) (reg : Reg)
     → clash did cycle placed ≡ None → i < j → slice_get placed i ≡ Some p → slice_get placed j ≡ Some q

@@ -1,17 +1,14 @@
 -- A flight made forwards, packet by packet, as a machine makes it.
-use Rattle.std.proofs.Common.{◌≡◌, ℕ, ◌+◌, List, [], ◌∷◌, ◌++◌, refl, sym, ◌∙◌, ap, arith}
+use Rattle.std.proofs.Common.{◌≡◌, ℕ, List, [], ◌∷◌, ◌++◌, refl, sym, ◌∙◌, ap, arith}
 use Rattle.std.proofs.lemmas.List.{append-nil}
 use Rattle.std.proofs.lemmas.Grind.{flat_map-append}
-use Rattle.c62_serial.specs.State.{Machine, IsSound}
-use Rattle.c62_meaning.specs.Meaning.{LeavesState}
+use Rattle.c62_serial.specs.State.{Machine}
 use Rattle.c62_meaning.proofs.Runs.{the_run, the_run_runs}
-use Rattle.c62_flight.specs.declared.stop.Stop.{Stop}
 use Rattle.c62_flight.specs.Text.{Text, Position, At, position_after}
 use Rattle.c62_flight.specs.Issued.{Visit, Issued, issued_in, issued_on, turn, over_of}
-use Rattle.c62_flight.specs.Flight.{Begins, Leads, Stops, Flies}
+use Rattle.c62_flight.specs.Flight.{Begins, Leads}
 use Rattle.c62_flight.proofs.Fronts.{Late, AreSameUntil, same_until, broken_same, ended_same}
 use Rattle.c62_flight.proofs.PathTimes.{in_visit}
-use Rattle.c62_flight.proofs.Flying.{flies_from}
 use Rattle.c62_flight.proofs.LaterPaths.{path_early, leads_front, leads_on}
 
 -- what the instructions of a path do when nothing else is issued
@@ -76,20 +73,3 @@ module _ (text : Text) (first limit : ℕ) (opening : Machine) where
         },
         (refl, refl),
       )
-
-  -- the run is stopped
-  pub comes_down : (path : List Visit) (last : Position) (end : ℕ) (stop : Stop) (cycles : ℕ) → IsSound opening
-      → IsUnderway text first limit opening path last end
-      → Stops text limit (on_path text opening path) last end stop cycles
-      → (final : Machine) × Flies text first limit opening stop cycles final
-      × LeavesState (issued_on text path) (cycles + 4) opening (the_run (issued_on text path) opening) final
-  comes_down path last end stop cycles sound under stops =
-      flies_from text first limit opening path stop cycles sound (record {
-        issued = on_path text opening path;
-        is = refl;
-        run = the_run_runs (issued_on text path) opening;
-        last = last;
-        end = end;
-        leads = under;
-        stops = stops;
-      })

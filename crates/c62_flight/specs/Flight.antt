@@ -2,7 +2,6 @@
 -- (docs/MACHINE.md, "Cycles and delays" and "Branches"). What instructions do is told over the whole path, as of a block.
 use Rattle.std.specs.Prelude.{◌≡◌, ◌⊎◌, ℕ, ◌+◌, ◌<◌, nat_le, if◌then◌else◌, List, [], ◌∷◌, Option, Some, None, is_some, IsTrue}
 use Rattle.c62_serial.specs.State.{Machine}
-use Rattle.c62_packet.specs.declared.placed.Placed.{Placed}
 use Rattle.c62_meaning.specs.Packet.{Did}
 use Rattle.c62_meaning.specs.Cut.{RunsTo}
 use Rattle.c62_flight.specs.declared.stop.Stop.{Stop}

@@ -1,5 +1,5 @@
 -- A text flies along a path whose branches lead along it.
-use Rattle.std.proofs.Common.{◌≡◌, ℕ, ◌+◌, ◌≤◌, true, List, [], ◌∷◌, length, Option, Some, None, refl, sym, ◌∙◌, ap}
+use Rattle.std.proofs.Common.{◌≡◌, ℕ, ◌+◌, ◌≤◌, true, List, length, Option, Some, None, refl, sym, ◌∙◌, ap}
 use Rattle.std.proofs.Common.{arith}
 use Rattle.std.specs.Prelude.{slice_get, is_some, filter}
 use Rattle.std.specs.Option.{option_or}
@@ -30,9 +30,7 @@ use Rattle.c62_loop.proofs.Lists.{at_place, place_of}
 use Rattle.c62_loop.proofs.Visits.{once, few, leads_along}
 
 few_are_none : (ps : List Placed) → length ps ≤ 1 → two_branches ps ≡ None
-few_are_none [] l = refl
-few_are_none (p ∷ []) l = refl
-few_are_none (p ∷ q ∷ ps) l = absurd (omega arith)
+few_are_none ps l = grind arith
 
 module _ (text : Text) (first : ℕ) (path : List SerialInsn) (visits : List Visit) (row cycle : ℕ) (opening : Machine)
     (sound : IsSound opening)

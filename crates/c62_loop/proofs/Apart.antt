@@ -1,19 +1,16 @@
 -- The counter and its branches stand apart from the work of a path.
-use Rattle.std.proofs.Common.{◌≡◌, ◌≢◌, ℕ, zero, suc, ◌+◌, ◌-◌, ◌^◌, ◌<◌, ◌≤◌, Bool, true, false, not, cond, List, []}
+use Rattle.std.proofs.Common.{◌≡◌, ◌≢◌, ℕ, suc, ◌+◌, ◌-◌, ◌^◌, ◌<◌, ◌≤◌, Bool, true, false, not, cond, List, []}
 use Rattle.std.proofs.Common.{◌∷◌, length, get_or, set, take, refl, sym, ◌∙◌, ap, subst, inl, inr, ⊎_elim, arith}
-use Rattle.std.specs.Prelude.{◌==◌, fold}
+use Rattle.std.specs.Prelude.{fold}
 use Rattle.std.specs.List.{list_any}
-use Rattle.std.proofs.lemmas.Bool.{cases_Bool, cases_lt, cond-true, cond-false, or_left, or_right, false≢true}
+use Rattle.std.proofs.lemmas.Bool.{cases_Bool, cond-true, cond-false, or_left, or_right}
 use Rattle.std.proofs.lemmas.List.{set-get_or, set_comm, get_or-set_same, get_or-set_other}
 use Rattle.c62_op.specs.declared.register.Reg.{Reg}
-use Rattle.c62_op.specs.Takes.{same_reg}
 use Rattle.c62_op.proofs.Registers.{same_register, same_reg-refl}
 use Rattle.c62_insn.specs.Insn.{register_writes, reads_register}
 use Rattle.c62_read.specs.declared.block.SerialInsn.{SerialInsn}
 use Rattle.c62_serial.specs.State.{Machine, IsSound, index_of, machine_of, word_in, byte_in, with_word}
-use Rattle.c62_serial.specs.Faults.{after_fault}
-use Rattle.c62_serial.specs.Effect.{Act, is_fault}
-use Rattle.c62_serial.specs.Serial.{after_write, after_access, after_act, after_entry, act_in}
+use Rattle.c62_serial.specs.Serial.{after_write, after_entry, act_in}
 use Rattle.c62_serial.proofs.RegisterLemmas.{index_within}
 use Rattle.c62_serial.proofs.MachineLemmas.{sound_act}
 use Rattle.c62_meaning.proofs.Lookup.{In}
@@ -22,18 +19,17 @@ use Rattle.c62_meaning.proofs.Landings.{act_writes}
 use Rattle.c62_loop.specs.Counter.{size_of, steps_on, touches, IsCounted, steps_in, CountsFrom, work_of}
 use Rattle.c62_loop.specs.Counter.{CounterStandsApart}
 use Rattle.c62_loop.proofs.Machines.{machine_after, serial_machine, In-All}
+use Rattle.std.proofs.lemmas.Bool.Decides.{nat_tests}
 
 -- ---- registers that are set
 
 set_again : (xs : List ℕ) (i a b : ℕ) → set (set xs i a) i b ≡ set xs i b
 set_again [] i a b = refl
-set_again (x ∷ xs) zero a b = refl
-set_again (x ∷ xs) (suc i) a b = ap (λ (ys : List ℕ). x ∷ ys) (set_again xs i a b)
+set_again (x ∷ xs) i a b = grind (arith, set_again xs)
 
 pub any_in : {X : Type 0} (f : X → Bool) (x : X) (xs : List X) → In x xs → f x ≡ true → list_any f xs ≡ true
 any_in f x [] h e = absurd h
-any_in f x (y ∷ xs) (inl s) e = or_left _ _ (subst (λ z. f z ≡ true) (sym s) e)
-any_in f x (y ∷ xs) (inr h) e = or_right _ _ (any_in f x xs h e)
+any_in f x (y ∷ xs) h e = grind (arith, any_in f x xs)
 
 module _ (counter : Reg) where
   abbrev Elsewhere : List ((Reg × ℕ) × ℕ) → Type 0
@@ -61,22 +57,15 @@ module _ (counter : Reg) where
     unread : (reg : Reg) → reads_register entry.insn reg ≡ true → index_of reg ≢ index_of counter
     unread reg reads e =
         let same : reg ≡ counter = same_register reg counter e in
-        false≢true (sym free ∙ or_right (steps_on counter entry) _
-        (subst (λ r. reads_register entry.insn r ≡ true) same reads))
+        grind (arith, or_right (steps_on counter entry))
 
     unwritten : (w : Reg × ℕ) → In w (register_writes entry.insn) → index_of w.0 ≢ index_of counter
     unwritten w h e =
         let same : w.0 ≡ counter = same_register w.0 counter e in
-        let found : same_reg w.0 counter ≡ true = subst (λ r. same_reg w.0 r ≡ true) same (same_reg-refl w.0) in
-        false≢true (sym free ∙ or_left _ (reads_register entry.insn counter)
-        (any_in (λ (write : Reg × ℕ). same_reg write.0 counter) w (register_writes entry.insn) h found))
+        grind (arith, same_reg-refl w.0, or_left, any_in)
 
     elsewhere : (machine : Machine) → Elsewhere (act_in machine entry).writes
     elsewhere machine w h = unwritten w.0 (act_writes entry.insn machine.base (word_in machine) (byte_in machine) w h)
-
-    no_step : steps_on counter entry ≡ false
-    no_step = ⊎_elim {C = steps_on counter entry ≡ false} (λ t. absurd (false≢true (sym free ∙ or_left _ _ t))) (λ f. f)
-        (cases_Bool (steps_on counter entry))
 
     pub value_kept : (machine : Machine) → word_in (after_entry entry machine) counter ≡ word_in machine counter
     value_kept machine = kept (act_in machine entry).writes machine.registers (elsewhere machine)
@@ -89,19 +78,13 @@ module _ (counter : Reg) where
 
     pub commutes : (v : ℕ) (machine : Machine)
         → after_entry entry (with_word counter v machine) ≡ with_word counter v (after_entry entry machine)
-    commutes v machine =
-        ap (λ (act : Act). after_act entry.line act (with_word counter v machine)) (acts_alike v machine)
-        ∙ ap (λ (rs : List ℕ). machine_of machine.base rs (after_access machine.memory (act_in machine entry).access)
-        (after_fault machine.faults entry.line (is_fault (act_in machine entry).access)))
-        (set_writes (act_in machine entry).writes machine.registers v (elsewhere machine))
+    commutes v machine = grind (arith, nat_tests, acts_alike, set_writes, elsewhere)
 
   pub free_commutes : (path : List SerialInsn) → ((e : SerialInsn) → In e path → touches counter e ≡ false)
       → (v : ℕ) (machine : Machine)
       → machine_after path (with_word counter v machine) ≡ with_word counter v (machine_after path machine)
   free_commutes [] free v machine = refl
-  free_commutes (entry ∷ path) free v machine =
-      ap (λ (m : Machine). machine_after path m) (commutes entry (free entry (inl refl)) v machine)
-      ∙ free_commutes path (λ e h. free e (inr h)) v (after_entry entry machine)
+  free_commutes (entry ∷ path) free v machine = grind (arith, free_commutes path, commutes entry)
 
   -- ---- the work of a path
 
@@ -120,13 +103,8 @@ module _ (counter : Reg) where
   work_commutes (entry ∷ path) v machine =
       ⊎_elim {C = machine_after (work_of counter (entry ∷ path)) (with_word counter v machine) ≡ with_word counter v
       (machine_after (work_of counter (entry ∷ path)) machine)}
-      (λ t. ap (λ (p : List SerialInsn). machine_after p (with_word counter v machine)) (work_without entry path t)
-      ∙ work_commutes path v machine
-      ∙ ap (λ (p : List SerialInsn). with_word counter v (machine_after p machine)) (sym (work_without entry path t)))
-      (λ f. ap (λ (p : List SerialInsn). machine_after p (with_word counter v machine)) (work_with entry path f)
-      ∙ ap (λ (m : Machine). machine_after (work_of counter path) m) (commutes entry f v machine)
-      ∙ work_commutes path v (after_entry entry machine)
-      ∙ ap (λ (p : List SerialInsn). with_word counter v (machine_after p machine)) (sym (work_with entry path f)))
+      (λ t. grind (arith, nat_tests, work_commutes path v machine))
+      (λ f. grind (arith, nat_tests, work_commutes path v (after_entry entry machine), work_with, commutes))
       (cases_Bool (touches counter entry))
 
   -- ---- a path, instruction by instruction
@@ -147,9 +125,7 @@ module _ (counter : Reg) where
       → CountsFrom counter value (entry ∷ path) → CountsFrom counter value path
   counts_behind entry path value f counts i other at t =
       elim (counts (suc i) other at t) [
-        | inl l ↦ (let e : steps_in counter (entry ∷ take i path) ≡ steps_in counter (take i path) = no_more entry
-            (take i path) f in
-            let u : steps_in counter (entry ∷ take i path) + size_of other ≤ value = l in inl (omega arith))
+        | inl l ↦ grind (arith, no_more entry (take i path) f)
         | inr z ↦ inr z
       ]
 
@@ -157,9 +133,7 @@ module _ (counter : Reg) where
       → CountsFrom counter value (entry ∷ path) → CountsFrom counter (value - size_of entry) path
   counts_less entry path value t counts i other at s =
       elim (counts (suc i) other at s) [
-        | inl l ↦ (let e : steps_in counter (entry ∷ take i path) ≡ size_of entry + steps_in counter (take i path) =
-            step_more entry (take i path) t in
-            let u : steps_in counter (entry ∷ take i path) + size_of other ≤ value = l in inl (omega arith))
+        | inl l ↦ grind (arith, step_more entry (take i path) t)
         | inr z ↦ inr z
       ]
 
@@ -192,8 +166,7 @@ module _ (counter : Reg) where
           → after_entry entry machine ≡ with_word counter left machine → Apart (entry ∷ path) value machine
       less left t l e =
           let inside : index_of counter < length machine.registers =
-          (let n : length machine.registers ≡ 32 = sound.registers in let k : index_of counter < 32 =
-          index_within counter in omega arith) in
+          grind (arith, index_within counter) in
           let next : IsSound (with_word counter left machine) = subst (λ (m : Machine). IsSound m) e sound_next in
           let there : word_in (with_word counter left machine) counter ≡ value - size_of entry = get_or-set_same
           machine.registers (index_of counter) left 0 inside ∙ l in
@@ -219,31 +192,14 @@ module _ (counter : Reg) where
       at_zero t few =
           elim (counts 0 entry refl t) [
             | inl l ↦ (let u : 0 + size_of entry ≤ value = l in absurd (omega arith))
-            | inr stops ↦ (let one : size_of entry ≡ 1 = stops.one in
-                let z : value ≡ 0 = omega arith in
-                less 0 t (omega arith)
-                (ap (λ (act : Act). after_act entry.line act machine)
-                (stops.stops machine.base (word_in machine) (byte_in machine) (is ∙ z))
-                ∙ sym (ap (λ (rs : List ℕ). machine_of machine.base rs machine.memory machine.faults)
-                (ap (λ v. set machine.registers (index_of counter) v) (sym (is ∙ z))
-                ∙ set-get_or machine.registers (index_of counter) 0))))
+            | inr stops ↦ grind (arith, less 0 t, set-get_or machine.registers (index_of counter) 0)
           ]
 
       above_zero : steps_on counter entry ≡ true → size_of entry ≤ value → Apart (entry ∷ path) value machine
-      above_zero t enough =
-          less (value - size_of entry) t refl
-          (ap (λ (act : Act). after_act entry.line act machine)
-          (is_counted.step t machine.base (word_in machine) (byte_in machine) (omega arith) (omega arith))
-          ∙ ap (λ v. with_word counter (v - size_of entry) machine) is)
+      above_zero t enough = grind (arith, less (value - size_of entry) t)
 
       tests : steps_on counter entry ≡ false → touches counter entry ≡ true → Apart (entry ∷ path) value machine
-      tests f t = same f t (either (word_in machine counter == 0) refl)
-        where
-          either : (b : Bool) → (word_in machine counter == 0) ≡ b → after_entry entry machine ≡ machine
-          either true z = ap (λ (act : Act). after_act entry.line act machine)
-              (is_counted.test f t machine.base (word_in machine) (byte_in machine) ∙ cond-true _ _ _ z)
-          either false z = ap (λ (act : Act). after_act entry.line act machine)
-              (is_counted.test f t machine.base (word_in machine) (byte_in machine) ∙ cond-false _ _ _ z)
+      tests f t = grind (arith, nat_tests, same f t)
 
       free : steps_on counter entry ≡ false → touches counter entry ≡ false → Apart (entry ∷ path) value machine
       free f u =
@@ -257,8 +213,7 @@ module _ (counter : Reg) where
       one_more : Apart (entry ∷ path) value machine
       one_more =
           ⊎_elim {C = Apart (entry ∷ path) value machine}
-          (λ t. ⊎_elim {C = Apart (entry ∷ path) value machine} (λ (l : value < size_of entry). at_zero t l)
-          (λ (l : size_of entry ≤ value). above_zero t l) (cases_lt value (size_of entry)))
+          (λ t. grind (arith, at_zero t, above_zero t))
           (λ f. ⊎_elim {C = Apart (entry ∷ path) value machine} (λ t. tests f t) (λ u. free f u)
           (cases_Bool (touches counter entry)))
           (cases_Bool (steps_on counter entry))
@@ -267,12 +222,10 @@ module _ (counter : Reg) where
         → ((e : SerialInsn) → In e path → IsCounted counter number e) → CountsFrom counter value path
         → IsSound machine
         → word_in machine counter ≡ value → value < 2 ^ 32 → Apart path value machine
-    apart [] value machine counted counts sound is small =
-        let e : value ≡ value - 0 = omega arith in
-        sym (ap (λ (rs : List ℕ). machine_of machine.base rs machine.memory machine.faults)
-        (ap (λ v. set machine.registers (index_of counter) v) (sym is)
-        ∙ set-get_or machine.registers (index_of counter) 0))
-        ∙ ap (λ v. with_word counter v machine) e
+    apart [] value machine counted counts sound is small = grind (
+      arith,
+      set-get_or machine.registers (index_of counter) 0,
+    )
     apart (entry ∷ path) value machine counted counts sound is small =
         one_more entry path value machine (counted entry (inl refl)) counts sound is small
         (λ v m c s e l. apart path v m (λ x h. counted x (inr h)) c s e l)

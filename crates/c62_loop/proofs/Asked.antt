@@ -1,17 +1,15 @@
 -- What is asked of the cycles of steps and branches.
-use Rattle.std.proofs.Common.{◌≡◌, ℕ, ◌+◌, ◌<◌, ◌≤◌, ℤ, pos, ◌+ℤ◌, ◌≤ℤ◌, Bool, true, false, ◌||◌, List, []}
+use Rattle.std.proofs.Common.{◌≡◌, ℕ, ◌+◌, ◌<◌, ◌≤◌, ℤ, pos, ◌+ℤ◌, ◌≤ℤ◌, Bool, true, false, List, []}
 use Rattle.std.proofs.Common.{◌∷◌, ◌++◌, Some, refl, sym, ◌∙◌, ap, subst, inl, inr, arith}
 use Rattle.std.specs.Prelude.{Contains}
 use Rattle.std.specs.List.{list_any}
-use Rattle.std.proofs.lemmas.Bool.{or_cases, or_left, or_right, false≢true}
+use Rattle.std.proofs.lemmas.Bool.{or_left, or_right, false≢true}
 use Rattle.std.proofs.lemmas.Int.{ints}
 use Rattle.c62_op.specs.declared.register.Reg.{Reg}
 use Rattle.c62_op.specs.Takes.{same_reg}
 use Rattle.c62_op.proofs.Registers.{same_reg-refl, same_reg-is}
-use Rattle.c62_op.specs.Shape.{writes_of, reads_of}
 use Rattle.c62_insn.specs.declared.insn.Insn.{Insn}
-use Rattle.c62_insn.specs.Insn.{IsSameInsn, op_of, operands_of, cond_of, register_writes, reads_register}
-use Rattle.c62_insn.specs.Insn.{is_condition_on}
+use Rattle.c62_insn.specs.Insn.{IsSameInsn, register_writes, reads_register}
 use Rattle.c62_rules.specs.Exclusive.{writes_in}
 use Rattle.c62_rules.specs.Dependence.{IsBound}
 use Rattle.c62_rules.specs.Dependence.IsBound.{ReadAfterWrite, WriteAfterRead, WriteAfterWrite, AfterStore}
@@ -32,23 +30,13 @@ use Rattle.c62_loop.proofs.PassControl.{control_from, control_of, in_pass}
 
 found_any : {X : Type 0} (f : X → Bool) (xs : List X) → list_any f xs ≡ true → (x : X) × In x xs × (f x ≡ true)
 found_any f [] e = absurd (false≢true e)
-found_any f (x ∷ xs) e = elim (or_cases (f x) (list_any f xs) e) [
-  | inl h ↦ (x, inl refl, h)
-  | inr h ↦ (let r = found_any f xs h in (r.0, inr r.1, r.2))
-]
+found_any f (x ∷ xs) e = grind (arith, found_any f xs)
 
 same_writes : (one other : Insn) → IsSameInsn one other → register_writes one ≡ register_writes other
-same_writes one other h = ap (λ op. writes_of op (operands_of one)) h.op
-    ∙ ap (λ operands. writes_of (op_of other) operands) h.operands
+same_writes one other h = grind arith
 
 same_reads : (one other : Insn) (reg : Reg) → IsSameInsn one other → reads_register one reg ≡ reads_register other reg
-same_reads one other reg h =
-    ap (λ op. list_any (λ (read : Reg). same_reg read reg) (reads_of op (operands_of one))
-    || is_condition_on reg (cond_of one)) h.op
-    ∙ ap (λ operands. list_any (λ (read : Reg). same_reg read reg) (reads_of (op_of other) operands)
-    || is_condition_on reg (cond_of one)) h.operands
-    ∙ ap (λ test. list_any (λ (read : Reg). same_reg read reg) (reads_of (op_of other) (operands_of other))
-    || is_condition_on reg test) h.cond
+same_reads one other reg h = grind arith
 
 module _ (counter : Reg) where
   module _ (label : ℕ) where
@@ -84,8 +72,7 @@ module _ (counter : Reg) where
         let l : p.cycle < q.cycle = turn.step d.2 in
         subst (λ b. (pos p.cycle +ℤ b) ≤ℤ pos q.cycle) (sym e) (omega (arith, ints, z, l))
     turn_keeps block i j p q bound is_p is_q turn (AfterStore s l x e) h = absurd (false≢true (sym is_p.no_store ∙ s))
-    turn_keeps block i j p q bound is_p is_q turn (StoreAfterLoad s l x e) h = absurd (false≢true (sym is_p.no_load
-        ∙ s))
+    turn_keeps block i j p q bound is_p is_q turn (StoreAfterLoad s l x e) h = grind arith
     turn_keeps block i j p q bound is_p is_q turn (BeforeBranch b e) h = absurd h
 
     -- nothing is asked between one and work
@@ -123,8 +110,7 @@ module _ (counter : Reg) where
         let r = found_any (λ (write : Reg × ℕ). same_reg write.0 reg) (register_writes p.insn) writes in
         let of_counter : r.0 ≡ (counter, 0)
         = is.writes r.0 (Contains_from_In r.0 (register_writes p.insn) r.1) in
-        let same : counter ≡ reg = sym (ap (λ (write : Reg × ℕ). write.0) of_counter) ∙ same_reg-is r.0.0 reg r.2 in
-        subst (λ z. reads_register entry.insn z ≡ false) same (unread (reads_register entry.insn counter) refl)
+        grind (arith, same_reg-is r.0.0 reg r.2, unread (reads_register entry.insn counter))
       where
         unread : (b : Bool) → reads_register entry.insn counter ≡ b → reads_register entry.insn counter ≡ false
         unread false e = e
@@ -138,15 +124,13 @@ module _ (counter : Reg) where
         → (b : IsBound block i j entry.insn q.insn bound) → IsOfData b → (pos p.cycle +ℤ bound) ≤ℤ pos q.cycle
     begin_keeps block i j entry p q bound stands is_q behind (ReadAfterWrite reg delay w r e) h =
         let lands : Contains (register_writes p.insn) (counter, delay)
-        = subst (λ z. Contains (register_writes p.insn) (z, delay)) (is_q.reads reg r)
-        (subst (λ ws. Contains ws (reg, delay)) (same_writes entry.insn p.insn stands.insn) w) in
+        = grind (arith, same_writes entry.insn p.insn stands.insn) in
         let l : p.cycle + (delay + 1) ≤ q.cycle = behind (delay + 1) (Lands delay lands refl) in
         subst (λ b. (pos p.cycle +ℤ b) ≤ℤ pos q.cycle) (sym e) (omega (arith, ints, l))
     begin_keeps block i j entry p q bound stands is_q behind (WriteAfterRead reg delay w r e) h =
         let d = writes_on q delay reg is_q w in
         let reads : reads_register p.insn counter ≡ true
-        = sym (same_reads entry.insn p.insn counter stands.insn)
-        ∙ subst (λ z. reads_register entry.insn z ≡ true) d.1 r in
+        = grind (arith, same_reads entry.insn p.insn counter stands.insn) in
         let l : p.cycle + 0 ≤ q.cycle = behind 0 (Reads reads d.2 refl) in
         subst (λ b. (pos p.cycle +ℤ b) ≤ℤ pos q.cycle) (sym e) (omega (arith, ints, l))
     begin_keeps block i j entry p q bound stands is_q behind (WriteAfterWrite reg first second v w x e) h =

@@ -1,38 +1,32 @@
 -- What is asked of two instructions of a path is asked of them wherever as much stands between.
 use Rattle.std.proofs.Common.{◌≡◌, ℕ, zero, suc, ◌+◌, ◌-◌, ◌<◌, ◌≤◌, Bool, true, false, ◌&&◌, not, ℤ, List, Option}
-use Rattle.std.proofs.Common.{[], ◌∷◌, ◌++◌, cond, Some, None, refl, sym, ◌∙◌, ap, subst, ◌⊎◌, inl, inr, ⊎_elim, arith}
+use Rattle.std.proofs.Common.{Some, None, refl, sym, ◌∙◌, ap, subst, ◌⊎◌, inl, inr, ⊎_elim, arith}
 use Rattle.std.specs.Prelude.{slice_get}
 use Rattle.std.specs.List.{list_any}
-use Rattle.std.proofs.lemmas.Bool.{cases_lt, and_parts, or_cases, or_left, or_right, false≢true}
+use Rattle.std.proofs.lemmas.Bool.{cases_lt, or_left, or_right, false≢true}
 use Rattle.std.proofs.lemmas.Option.{none-some, same_Some}
 use Rattle.c62_op.specs.declared.register.Reg.{Reg}
 use Rattle.c62_op.specs.declared.operands.Op.{Op}
 use Rattle.c62_op.specs.declared.operands.Operands.{Operands}
-use Rattle.c62_op.specs.declared.operands.Operands.TheVariants.{Access}
-use Rattle.c62_op.specs.declared.operands.Offset.TheVariants.{Constant as ByConstant}
-use Rattle.c62_op.specs.Shape.{is_store, reads_of}
+use Rattle.c62_op.specs.Shape.{reads_of}
 use Rattle.c62_op.specs.Takes.{same_reg}
 use Rattle.c62_op.proofs.Registers.{same_reg-is, same_reg-refl}
 use Rattle.c62_op.specs.declared.register.Cond.{Cond as Condition}
 use Rattle.c62_insn.specs.declared.insn.Insn.{Insn}
-use Rattle.c62_insn.specs.Insn.{op_of, operands_of, cond_of, operand_reads, is_condition_on, reads_register}
-use Rattle.c62_rules.specs.Exclusive.{writes_in, is_written_by, are_opposite, condition_in, exclusive_by, are_exclusive}
+use Rattle.c62_insn.specs.Insn.{op_of, operands_of, reads_register}
+use Rattle.c62_rules.specs.Exclusive.{writes_in, is_written_by, condition_in, exclusive_by, are_exclusive}
 use Rattle.c62_rules.specs.Disjoint.{Range, range_of, range_in, are_apart, disjoint_by, are_disjoint}
 use Rattle.c62_rules.specs.Dependence.{IsBound}
 use Rattle.c62_rules.specs.Dependence.IsBound.{ReadAfterWrite, WriteAfterRead, WriteAfterWrite, AfterStore}
 use Rattle.c62_rules.specs.Dependence.IsBound.{StoreAfterLoad, BeforeBranch}
 use Rattle.c62_meaning.specs.Instances.{IsOfData, IsOfMemory, DataBounds}
-use Rattle.c62_meaning.proofs.Lookup.{In}
 use Rattle.c62_loop.proofs.Apart.{any_in}
+use Rattle.std.proofs.lemmas.Bool.Decides.{nat_tests}
 
 written_by : (block : List Insn) (i count : ℕ) (reg : Reg) → is_written_by block i count reg ≡ true → (k : ℕ)
     × (k < count) × (writes_in reg (slice_get block (i + k)) ≡ true)
 written_by block i zero reg e = absurd (false≢true e)
-written_by block i (suc count) reg e =
-    elim (or_cases (is_written_by block i count reg) (writes_in reg (slice_get block (i + count))) e) [
-      | inl h ↦ (let r = written_by block i count reg h in let l : r.0 < count = r.1 in (r.0, omega arith, r.2))
-      | inr h ↦ (count, omega arith, h)
-    ]
+written_by block i (suc count) reg e = grind (arith, written_by block i count reg)
 
 is_written : (block : List Insn) (i count k : ℕ) (reg : Reg) → k < count
     → writes_in reg (slice_get block (i + k)) ≡ true → is_written_by block i count reg ≡ true
@@ -40,14 +34,11 @@ is_written block i zero k reg l e = absurd (omega arith)
 is_written block i (suc count) k reg l e =
     ⊎_elim {C = is_written_by block i (suc count) reg ≡ true}
     (λ (u : k < count). or_left _ _ (is_written block i count k reg u e))
-    (λ (u : count ≤ k). let s : k ≡ count = omega arith in or_right _ _
-    (subst (λ n. writes_in reg (slice_get block (i + n)) ≡ true) s e))
+    (λ (u : count ≤ k). let s : k ≡ count = omega arith in grind (arith, or_right))
     (cases_lt k count)
 
 not_less : (a w v : Bool) → (a ≡ true → w ≡ true → v ≡ true) → a && not w ≡ false → a && not v ≡ false
-not_less false w v h e = refl
-not_less true true v h e = ap not (h refl refl)
-not_less true false v h e = absurd (false≢true (sym e))
+not_less a w v h e = grind arith
 
 -- ---- what tests and accesses read
 
@@ -57,23 +48,12 @@ conditional None test e = absurd (none-some test e)
 conditional (Some insn) test e = (
   insn,
   refl,
-  or_right (list_any (λ (read : Reg). same_reg read test.reg) (operand_reads insn))
-      (is_condition_on test.reg (cond_of insn)) (ap (is_condition_on test.reg) e ∙ same_reg-refl test.reg),
+  grind (arith, or_right, same_reg-refl test.reg),
 )
 
 reads_base : (op : Op) (operands : Operands) (range : Range) → range_of op operands ≡ Some range
     → list_any (λ (read : Reg). same_reg read range.base) (reads_of op operands) ≡ true
-reads_base op (Access reg base form (ByConstant k)) range e =
-    subst (λ (r : Reg). list_any (λ (read : Reg). same_reg read r)
-    (reads_of op (Access reg base form (ByConstant k))) ≡ true)
-    (ap (λ (r : Range). r.base) (same_Some _ range e))
-    (any_in (λ (read : Reg). same_reg read base) base (reads_of op (Access reg base form (ByConstant k)))
-    (among (is_store op)) (same_reg-refl base))
-  where
-    among : (b : Bool) → In base (cond b (reg ∷ []) [] ++ (base ∷ []))
-    among true = inr (inl refl)
-    among false = inl refl
-reads_base op _ range e = cc
+reads_base op operands range e = grind (arith, same_Some, any_in, same_reg-refl)
 
 accessing : (found : Option Insn) (range : Range) → range_in found ≡ Some range
     → (insn : Insn) × (found ≡ Some insn) × (reads_register insn range.base ≡ true)
@@ -81,8 +61,7 @@ accessing None range e = absurd (none-some range e)
 accessing (Some insn) range e = (
   insn,
   refl,
-  or_left (list_any (λ (read : Reg). same_reg read range.base) (operand_reads insn))
-      (is_condition_on range.base (cond_of insn)) (reads_base (op_of insn) (operands_of insn) range e),
+  grind (arith, or_left, reads_base (op_of insn) (operands_of insn) range e),
 )
 
 -- ---- two paths
@@ -102,8 +81,7 @@ module _ (one other : List Insn) (i j i' j' : ℕ) (lt : i < j) (lt' : i' < j')
       → is_written_by one i (j - i) reg ≡ true → is_written_by other i' (j' - i') reg ≡ true
   written reg last is_last reads e =
       let r = written_by one i (j - i) reg e in
-      let l : r.0 < j - i = r.1 in
-      by_insn (i + r.0) (omega arith) (omega arith) (slice_get one (i + r.0)) refl r.2
+      grind (arith, by_insn (i + r.0))
     where
       by_insn : (k : ℕ) → i ≤ k → k < j → (o : Option Insn) → slice_get one k ≡ o → writes_in reg o ≡ true
           → is_written_by other i' (j' - i') reg ≡ true
@@ -127,10 +105,7 @@ module _ (one other : List Insn) (i j i' j' : ℕ) (lt : i < j) (lt' : i' < j')
           → exclusive_by other i' j' c d ≡ false
       by_conditions (Some c) (Some d) is_d e =
           let r = conditional (slice_get one j) d is_d in
-          not_less (are_opposite c d) (is_written_by one i (j - i) c.reg) (is_written_by other i' (j' - i') c.reg)
-          (λ o. written c.reg r.0 r.1
-          (subst (λ reg. reads_register r.0 reg ≡ true) (sym (same_reg-is c.reg d.reg (and_parts _ _ o).0))
-          r.2)) e
+          grind (arith, nat_tests, not_less, written, same_reg-is)
       by_conditions (Some c) None is_d e = refl
       by_conditions None (Some d) is_d e = refl
       by_conditions None None is_d e = refl
@@ -145,10 +120,12 @@ module _ (one other : List Insn) (i j i' j' : ℕ) (lt : i < j) (lt' : i' < j')
           → disjoint_by other i' j' a b ≡ false
       by_ranges (Some a) (Some b) is_b e =
           let r = accessing (slice_get one j) b is_b in
-          not_less (are_apart a b) (is_written_by one i (j - i) a.base) (is_written_by other i' (j' - i') a.base)
-          (λ o. written a.base r.0 r.1
-          (subst (λ reg. reads_register r.0 reg ≡ true)
-          (sym (same_reg-is a.base b.base (and_parts _ _ o).0)) r.2)) e
+          grind (
+            arith,
+            not_less (are_apart a b) (is_written_by one i (j - i) a.base) (is_written_by other i' (j' - i') a.base),
+            written a.base r.0 r.1,
+            same_reg-is a.base b.base,
+          )
       by_ranges (Some a) None is_b e = refl
       by_ranges None (Some b) is_b e = refl
       by_ranges None None is_b e = refl

@@ -170,8 +170,7 @@ module _ (region : Region) (loop : Pipelined) (trips passes : ℕ) (counted : Is
                     ⊎_elim {C = steps_in counter (take i m.control) < trips}
                     (λ (u : suc d < passes). omega arith)
                     (λ (u : passes ≤ suc d).
-                    let k : pass_start loop (suc pass) < pass_start loop (suc d) = starts_above loop is (suc pass)
-                    (suc d) (omega arith) in absurd (omega arith))
+                    grind (arith, starts_above loop is (suc pass) (suc d)))
                     (cases_lt (suc d) passes)
 
     pub steers : Steers loop.text loop.first visits (last_row loop) (cycles_of loop passes) did

@@ -1,11 +1,10 @@
 -- Finite checks of distances, turns and lists.
 use Rattle.std.proofs.Common.{◌≡◌, ℕ, zero, suc, ◌+◌, ◌<◌, ◌≤◌, ℤ, pos, ◌+ℤ◌, ◌≤ℤ◌, Bool, true, false, not, ◌&&◌, ◌||◌}
-use Rattle.std.proofs.Common.{leb, ltb, List, [], ◌∷◌, length, Option, Some, None, refl, sym, ◌∙◌, ap, subst, inl, inr}
-use Rattle.std.proofs.Common.{⊎_elim, arith, map}
+use Rattle.std.proofs.Common.{leb, ltb, List, [], ◌∷◌, length, Option, Some, None, refl, ◌∙◌, subst, inl, inr}
+use Rattle.std.proofs.Common.{arith, map}
 use Rattle.std.specs.Prelude.{All, Contains, slice_get}
-use Rattle.std.specs.Int.Signed.{le_z, le_z_yes}
-use Rattle.std.proofs.lemmas.Bool.{cases_lt, and_parts, leb-true, ltb-true}
-use Rattle.std.proofs.lemmas.Float.{T_from_true}
+use Rattle.std.specs.Int.Signed.{le_z}
+use Rattle.std.proofs.lemmas.Bool.{and_parts, leb-true}
 use Rattle.std.proofs.lemmas.Int.{ints}
 use Rattle.std.proofs.lemmas.Option.{none-some, same_Some, get_or_from_slice_get, slice_get_within}
 use Rattle.std.specs.List.{list_all}
@@ -21,6 +20,7 @@ use Rattle.c62_loop.specs.Counter.{steps_on}
 use Rattle.c62_loop.specs.Stage.{Straights, insns_of, KeepDistances}
 use Rattle.c62_loop.specs.Whole.{entry_of, IsInTurn, AreInTurn, StandInTurn}
 use Rattle.c62_loop.proofs.Lists.{all_in}
+use Rattle.std.proofs.lemmas.Bool.Decides.{nat_tests}
 
 -- ---- finite checks
 
@@ -30,10 +30,7 @@ all_below f (suc n) = f n && all_below f n
 
 pub below : (f : ℕ → Bool) (n k : ℕ) → all_below f n ≡ true → k < n → f k ≡ true
 below f zero k e l = absurd (omega arith)
-below f (suc n) k e l =
-    ⊎_elim {C = f k ≡ true} (λ (u : k < n). below f n k (and_parts (f n) (all_below f n) e).1 u)
-    (λ (u : n ≤ k). let s : n ≡ k = omega arith in subst (λ m. f m ≡ true) s (and_parts (f n) (all_below f n) e).0)
-    (cases_lt k n)
+below f (suc n) k e l = grind (arith, below f n k)
 
 -- a latency is kept
 abbrev pub is_kept : Option ℤ → Option Placed → Option Placed → Bool
@@ -62,13 +59,7 @@ keep_all straights trips placed e i j p q bound at_p at_q asked needed =
     by_latency None at none = absurd (none (bound, asked.bounds))
     by_latency (Some l) at greatest =
         let most : bound ≤ℤ l = greatest.greatest bound asked.bounds in
-        let here : is_kept (Some l) (Some p) (Some q) ≡ true
-        = ap (λ o. is_kept (Some l) o (Some q)) (sym at_p)
-        ∙ ap (λ o. is_kept (Some l) (slice_get placed i) o) (sym at_q)
-        ∙ ap (λ o. is_kept o (slice_get placed i) (slice_get placed j)) (sym at) ∙ kept in
-        let fits : (pos p.cycle +ℤ l) ≤ℤ pos q.cycle = le_z_yes
-        (T_from_true (le_z (pos p.cycle +ℤ l) (pos q.cycle)) here) in
-        omega (arith, ints, most, fits)
+        grind (arith, nat_tests, kept, ints)
 
 -- those of a list stand in another, at these places
 pub stand_at : (xs ys : List Placed) (places : List ℕ) → map (slice_get ys) places ≡ map Some xs → (p : Placed)
@@ -97,28 +88,19 @@ stand_turn counter [] = true
 stand_turn counter (p ∷ ps) = all_behind counter p ps && stand_turn counter ps
 
 pub in_turn : (counter : Reg) (p q : Placed) → is_in_turn counter p q ≡ true → IsInTurn counter p q
-in_turn counter p q e =
-    let parts = and_parts (leb p.cycle q.cycle) (not (steps_on counter (entry_of p)) || ltb p.cycle q.cycle) e in
-    record {
-      order = leb-true p.cycle q.cycle parts.0;
-      step = λ t. ltb-true p.cycle q.cycle (ap (λ b. not b || ltb p.cycle q.cycle) (sym t) ∙ parts.1);
-    }
+in_turn counter p q e = grind (arith, leb-true p.cycle q.cycle)
 
 pub behind_turn : (counter : Reg) (p : Placed) (qs : List Placed) → all_behind counter p qs ≡ true → (q : Placed)
     → In q qs → IsInTurn counter p q
 behind_turn counter p [] e q h = absurd h
-behind_turn counter p (x ∷ qs) e q (inl s) =
-    subst (λ z. IsInTurn counter p z) s
-    (in_turn counter p x (and_parts (is_in_turn counter p x) (all_behind counter p qs) e).0)
+behind_turn counter p (x ∷ qs) e q (inl s) = grind (arith, in_turn counter p x)
 behind_turn counter p (x ∷ qs) e q (inr h) = behind_turn counter p qs
     (and_parts (is_in_turn counter p x) (all_behind counter p qs) e).1 q h
 
 pub lists_turn : (counter : Reg) (ps qs : List Placed) → all_turn counter ps qs ≡ true → (p q : Placed) → In p ps
     → In q qs → IsInTurn counter p q
 lists_turn counter [] qs e p q h k = absurd h
-lists_turn counter (x ∷ ps) qs e p q (inl s) k =
-    subst (λ z. IsInTurn counter z q) s
-    (behind_turn counter x qs (and_parts (all_behind counter x qs) (all_turn counter ps qs) e).0 q k)
+lists_turn counter (x ∷ ps) qs e p q (inl s) k = grind (arith, behind_turn counter x qs)
 lists_turn counter (x ∷ ps) qs e p q (inr h) k = lists_turn counter ps qs
     (and_parts (all_behind counter x qs) (all_turn counter ps qs) e).1 p q h k
 
@@ -135,8 +117,7 @@ turn_stands counter (p ∷ ps) e =
     )
   where
     only : (x : Placed) → In x (p ∷ []) → p ≡ x
-    only x (inl e) = e
-    only x (inr h) = absurd h
+    only x h = grind arith
 
 -- each of a list, by its number
 abbrev pub EachFrom : (ℕ → Placed → Type 0) → ℕ → List Placed → Type 0
@@ -146,10 +127,8 @@ EachFrom P k (x ∷ xs) = P k x × EachFrom P (k + 1) xs
 pub each_at : (P : ℕ → Placed → Type 0) (k : ℕ) (xs : List Placed) → EachFrom P k xs → (i : ℕ) (p : Placed)
     → slice_get xs i ≡ Some p → P (k + i) p
 each_at P k [] h i p e = absurd (none-some p e)
-each_at P k (x ∷ xs) h zero p e = let s : k ≡ k + 0 = omega arith in subst (λ n. P n p) s
-    (subst (λ z. P k z) (same_Some x p e) h.0)
-each_at P k (x ∷ xs) h (suc i) p e = let s : k + 1 + i ≡ k + suc i = omega arith in subst (λ n. P n p) s
-    (each_at P (k + 1) xs h.1 i p e)
+each_at P k (x ∷ xs) h zero p e = grind (arith, same_Some x p e)
+each_at P k (x ∷ xs) h (suc i) p e = grind (arith, each_at P (k + 1) xs h.1 i p e)
 
 -- ---- lists, element by element
 
@@ -162,8 +141,7 @@ all_of {X = X} P xs h = all_in P xs (inside xs h)
   where
     inside : (xs : List X) → AllOf P xs → (x : X) → In x xs → P x
     inside [] h x k = absurd k
-    inside (y ∷ xs) h x (inl e) = subst P e h.0
-    inside (y ∷ xs) h x (inr k) = inside xs h.1 x k
+    inside (y ∷ xs) h x k = grind (arith, inside xs h.1 x)
 
 -- a number of each is at most so great
 pub few_of : {X : Type 0} (number : X → ℕ) (most : ℕ) (xs : List X) → list_all (λ x. leb (number x) most) xs ≡ true
@@ -174,21 +152,13 @@ few_of {X = X} number most xs e = all_in (λ x. number x ≤ most) xs (inside xs
     inside [] e x h = absurd h
     inside (y ∷ xs) e x h =
         let parts = and_parts (leb (number y) most) (list_all (λ z. leb (number z) most) xs) e in
-        elim h [
-          | inl same ↦ subst (λ z. number z ≤ most) same (leb-true (number y) most parts.0)
-          | inr later ↦ inside xs parts.1 x later
-        ]
+        grind (arith, nat_tests, inside xs parts.1 x)
 
 pub rises_one : (a : ℕ) → IsStrictlyIncreasing (a ∷ [])
 rises_one a k l = absurd (omega arith)
 
 pub rises_three : IsStrictlyIncreasing (1 ∷ 3 ∷ 5 ∷ [])
-rises_three zero k = omega arith
-rises_three (suc zero) k = omega arith
-rises_three (suc (suc n)) k = absurd (omega arith)
+rises_three h k = grind arith
 
 pub rises_four : IsStrictlyIncreasing (0 ∷ 1 ∷ 3 ∷ 5 ∷ [])
-rises_four zero k = omega arith
-rises_four (suc zero) k = omega arith
-rises_four (suc (suc zero)) k = omega arith
-rises_four (suc (suc (suc n))) k = absurd (omega arith)
+rises_four h k = grind arith

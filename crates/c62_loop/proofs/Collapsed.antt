@@ -1,6 +1,6 @@
 -- A pipelined loop that begins iterations past the last does what its serial loop does, but for what these leave.
-use Rattle.std.proofs.Common.{Bool, false, ◌≡◌, ℕ, suc, ◌+◌, ◌-◌, ◌<◌, ◌≤◌, List, [], ◌∷◌, ◌++◌, map, length, get_or}
-use Rattle.std.proofs.Common.{Some, refl, sym, ◌∙◌}
+use Rattle.std.proofs.Common.{Bool, false, ◌≡◌, ℕ, ◌+◌, ◌-◌, ◌<◌, ◌≤◌, List, [], ◌∷◌, ◌++◌, map, length, get_or}
+use Rattle.std.proofs.Common.{Some, sym, ◌∙◌}
 use Rattle.std.proofs.Common.{ap, subst, ◌⊎◌, inl, inr, ⊎_elim, arith}
 use Rattle.std.proofs.lemmas.Bool.{cases_lt}
 use Rattle.std.specs.Prelude.{slice_get}
@@ -38,26 +38,20 @@ use Rattle.c62_loop.proofs.PastLater.{behind_later}
 
 are_of : (most deep : ℕ) (entries : List SerialInsn) (stages : List Stage) → AreHeldOf most deep entries stages
     → AreOf entries stages
-are_of most deep [] [] h = h
-are_of most deep [] (s ∷ stages) h = absurd h
-are_of most deep (e ∷ entries) [] h = absurd h
-are_of most deep (e ∷ entries) (s ∷ stages) h =
-    (record { early = h.0.early; kernel = h.0.kernel; late = h.0.late }, are_of most deep entries stages h.1)
+are_of most deep [] stages h = grind arith
+are_of most deep (e ∷ entries) stages h = grind (arith, are_of most deep entries)
 
 held_count : (most deep : ℕ) (entries : List SerialInsn) (stages : List Stage) → AreHeldOf most deep entries stages
     → length stages ≡ length entries
-held_count most deep [] [] h = refl
-held_count most deep [] (s ∷ stages) h = absurd h
-held_count most deep (e ∷ entries) [] h = absurd h
-held_count most deep (e ∷ entries) (s ∷ stages) h = ap suc (held_count most deep entries stages h.1)
+held_count most deep [] stages h = grind arith
+held_count most deep (e ∷ entries) stages h = grind (arith, held_count most deep entries)
 
 stage_held : (most deep : ℕ) (entries : List SerialInsn) (stages : List Stage) → AreHeldOf most deep entries stages
     → (stage : Stage) → In stage stages
     → (most ≤ length stage.early + length stage.late) × (length stage.early ≤ deep)
 stage_held most deep entries [] h stage k = absurd k
 stage_held most deep [] (s ∷ stages) h stage k = absurd h
-stage_held most deep (e ∷ entries) (s ∷ stages) h stage (inl same) = subst
-    (λ (z : Stage). (most ≤ length z.early + length z.late) × (length z.early ≤ deep)) same (h.0.enough, h.0.few)
+stage_held most deep (e ∷ entries) (s ∷ stages) h stage (inl same) = grind arith
 stage_held most deep (e ∷ entries) (s ∷ stages) h stage (inr k) = stage_held most deep entries stages h.1 stage k
 
 -- a stage has an instruction
@@ -114,14 +108,7 @@ module _ (promised : Insn → Insn → Bool) (region : Region) (past : List Seri
       ∙ ap (λ xs. work_of counter region.behind ++ xs) (all_work counter past untouched)
 
   stands : (passes : ℕ) → StandFor (work_of counter (region.behind ++ past)) (behind passes)
-  stands passes =
-      subst (λ xs. StandFor xs (behind passes)) (sym work_longer)
-      (stand_both (work_of counter region.behind) past
-      (map (moved (cycles_in schedule.interval passes)) schedule.behind) (past_placed schedule.interval m.beyond passes)
-      (stand_moved (cycles_in schedule.interval passes) (work_of counter region.behind) schedule.behind m.behind)
-      (subst (λ xs. StandFor xs (past_placed schedule.interval m.beyond passes)) (sym m.past_is)
-      (past_stand work schedule.stages schedule.interval passes (are_of most deep work schedule.stages m.body) m.beyond
-      each)))
+  stands passes = grind (arith, work_longer, stand_both, stand_moved, past_stand, are_of most, each)
 
   counted_longer : IsCountedLoop region → IsCountedLoop longer
   counted_longer counted = record {
@@ -192,8 +179,7 @@ module _ (promised : Insn → Insn → Bool) (region : Region) (past : List Seri
     of_all : (p : Placed) → In p (behind passes) ⊎ ((t : ℕ) × (t < most + passes) × In p
         (round_of schedule passes (0 + t)))
         → In p moved_behind ⊎ IsInstance schedule passes p
-    of_all p (inl h) = elim (In-append_cases p moved_behind (past_placed schedule.interval m.beyond passes) h)
-        [ inl k ↦ inl k | inr k ↦ inr (of_past p k) ]
+    of_all p (inl h) = grind (arith, In-append_cases p, of_past p)
     of_all p (inr (t, l, h)) =
         let z : 0 + t ≡ t = omega arith in
         let r = in_mapped (instance_of schedule.interval passes t) schedule.stages p
@@ -205,8 +191,7 @@ module _ (promised : Insn → Insn → Bool) (region : Region) (past : List Seri
     rest_is : RestIs schedule passes (rest passes)
     rest_is = record {
       held = all_held;
-      behinds = λ p h. behind_rounds schedule passes 0 (most + passes) (behind passes) p
-          (In-append_left p moved_behind (past_placed schedule.interval m.beyond passes) h);
+      behinds = λ p h. grind (arith, behind_rounds, In-append_left p);
       from = λ p h. of_all p (from_rounds schedule passes 0 (most + passes) (behind passes) p h);
     }
 

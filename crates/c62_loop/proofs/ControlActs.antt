@@ -1,8 +1,8 @@
 -- What the counter of a pipelined loop holds behind each of its control, and where that leads.
 use Rattle.std.proofs.Common.{◌≡◌, ℕ, ◌+◌, ◌-◌, ◌^◌, ◌<◌, ◌≤◌, true, false, List, ◌++◌, length, take, Some, None, refl}
-use Rattle.std.proofs.Common.{sym, ◌∙◌, ap, inl, inr, ⊎_elim, arith}
-use Rattle.std.specs.Prelude.{◌==◌, slice_get}
-use Rattle.std.proofs.lemmas.Bool.{cases_lt, cond-true, cond-false, eq-eqb, ne_eqb, false≢true}
+use Rattle.std.proofs.Common.{sym, ◌∙◌, ap, arith}
+use Rattle.std.specs.Prelude.{slice_get}
+use Rattle.std.proofs.lemmas.Bool.{false≢true}
 use Rattle.std.proofs.lemmas.List.{get_or-set_same}
 use Rattle.c62_op.specs.declared.register.Reg.{Reg}
 use Rattle.c62_op.specs.Shape.{is_branch}
@@ -10,7 +10,7 @@ use Rattle.c62_insn.specs.Insn.{op_of}
 use Rattle.c62_insn.specs.declared.effect.Target.{Target}
 use Rattle.c62_insn.specs.declared.effect.Target.TheVariants.{Block as ToBlock}
 use Rattle.c62_read.specs.declared.block.SerialInsn.{SerialInsn}
-use Rattle.c62_serial.specs.State.{Machine, IsSound, index_of, word_in, byte_in, with_word}
+use Rattle.c62_serial.specs.State.{Machine, IsSound, word_in, byte_in, with_word}
 use Rattle.c62_serial.proofs.MachineLemmas.{sound_run}
 use Rattle.c62_serial.specs.Effect.{Act}
 use Rattle.c62_serial.specs.Serial.{act_in, serial}
@@ -20,12 +20,13 @@ use Rattle.c62_packet.specs.declared.placed.Placed.{Placed}
 use Rattle.c62_meaning.specs.Packet.{Did}
 use Rattle.c62_meaning.proofs.Lookup.{In}
 use Rattle.c62_loop.specs.Along.{ActSerially}
-use Rattle.c62_loop.specs.Counter.{size_of, steps_on, touches, IsCounted, steps_in, work_of}
+use Rattle.c62_loop.specs.Counter.{steps_on, touches, IsCounted, steps_in, work_of}
 use Rattle.c62_loop.specs.Loop.{Region, loop_path, trips_of, IsCountedLoop, Pipelined, IsMatch}
 use Rattle.c62_loop.proofs.Lists.{in_take, at_place, get_back, front_at, taken_whole, taken_more}
 use Rattle.c62_loop.proofs.Machines.{machine_after, serial_machine, In-All}
 use Rattle.c62_loop.proofs.Apart.{apart}
 use Rattle.c62_loop.proofs.Counting.{serial_both, counts_front, in_work, no_work, path_counted}
+use Rattle.std.proofs.lemmas.Bool.Decides.{nat_tests}
 
 module _ (region : Region) (loop : Pipelined) (trips passes : ℕ) (counted : IsCountedLoop region) (opening : Machine)
     (m : IsMatch region loop trips passes opening) (sound : IsSound opening)
@@ -67,12 +68,7 @@ module _ (region : Region) (loop : Pipelined) (trips passes : ℕ) (counted : Is
 
   holds : (i : ℕ) → word_in (serial (take i m.control) start).machine counter ≡ trips - steps_in counter
       (take i m.control)
-  holds i =
-      ap (λ (machine : Machine). word_in machine counter) (serial_machine (take i m.control) start ∙ controlled i)
-      ∙ get_or-set_same start.registers (index_of counter) (trips - steps_in counter (take i m.control)) 0
-      (let n : length start.registers ≡ 32 = sound_start.registers in
-      let k : index_of counter < 32 = index_within counter
-      in omega arith)
+  holds i = grind (arith, nat_tests, serial_machine, controlled, get_or-set_same, sound_start, index_within)
 
   -- none above the label is a branch,
   pub before_straight : (entry : SerialInsn) → In entry region.before → is_branch (op_of entry.insn) ≡ false
@@ -80,9 +76,7 @@ module _ (region : Region) (loop : Pipelined) (trips passes : ℕ) (counted : Is
 
   -- nor is work
   pub work_straight : (entry : SerialInsn) → In entry work → is_branch (op_of entry.insn) ≡ false
-  work_straight entry h =
-      let there = in_work counter (loop_path region trips) entry h in
-      (path_counted region counted trips entry there.0).other there.1
+  work_straight entry h = grind (arith, in_work, path_counted region counted trips entry)
 
   -- ---- where the control leads
 
@@ -106,72 +100,27 @@ module _ (region : Region) (loop : Pipelined) (trips passes : ℕ) (counted : Is
         → steps_in counter (take i m.control) < trips → (did p).target ≡ Some (ToBlock loop.label)
     goes_on i entry p at_i at_p f l =
         let h : In entry m.control = at_place m.control i entry at_i in
-        let word : ℕ = word_in (serial (take i m.control) start).machine counter in
-        let here : word_in (serial (take i m.control) start).machine counter ≡ trips - steps_in counter
-        (take i m.control) = holds i in
-        let ne : word_in (serial (take i m.control) start).machine counter == 0 ≡ false
-        = ne_eqb (word_in (serial (take i m.control) start).machine counter) 0 (λ z. omega arith) in
-        ap (λ (a : Act). a.target)
-        (act_at i entry p at_i at_p
-        ∙ (is_counted entry h).test f (touched entry h) (serial (take i m.control) start).machine.base
-        (word_in (serial (take i m.control) start).machine)
-        (byte_in (serial (take i m.control) start).machine)
-        ∙ cond-false _ _ _ ne)
+        grind (arith, nat_tests, holds i, act_at i entry p at_i at_p, is_counted entry h, touched entry h)
 
     pub stays : (i : ℕ) (entry : SerialInsn) (p : Placed) → slice_get m.control i ≡ Some entry
         → slice_get placed (length region.before + i) ≡ Some p → steps_on counter entry ≡ false
         → trips ≤ steps_in counter (take i m.control) → (did p).target ≡ None
     stays i entry p at_i at_p f l =
         let h : In entry m.control = at_place m.control i entry at_i in
-        let here : word_in (serial (take i m.control) start).machine counter ≡ trips - steps_in counter
-        (take i m.control) = holds i in
-        let eq : word_in (serial (take i m.control) start).machine counter == 0 ≡ true
-        = eq-eqb (word_in (serial (take i m.control) start).machine counter) 0 (omega arith) in
-        ap (λ (a : Act). a.target)
-        (act_at i entry p at_i at_p
-        ∙ (is_counted entry h).test f (touched entry h) (serial (take i m.control) start).machine.base
-        (word_in (serial (take i m.control) start).machine)
-        (byte_in (serial (take i m.control) start).machine)
-        ∙ cond-true _ _ _ eq)
+        grind (arith, holds i, act_at i entry p at_i at_p, is_counted entry h, touched entry h)
 
     -- a step goes nowhere
     pub steps_stay : (i : ℕ) (entry : SerialInsn) (p : Placed) → slice_get m.control i ≡ Some entry
         → slice_get placed (length region.before + i) ≡ Some p → steps_on counter entry ≡ true
         → (did p).target ≡ None
-    steps_stay i entry p at_i at_p t = ap (λ (a : Act). a.target) (act_at i entry p at_i at_p)
-        ∙ ⊎_elim {C = (act_in (serial (take i m.control) start).machine entry).target ≡ None} few enough
-        (cases_lt (word_in (serial (take i m.control) start).machine counter) (size_of entry))
-      where
-        h : In entry m.control
-        h = at_place m.control i entry at_i
-
-        here : word_in (serial (take i m.control) start).machine counter ≡ trips - steps_in counter (take i m.control)
-        here = holds i
-
-        enough : size_of entry ≤ word_in (serial (take i m.control) start).machine counter
-            → (act_in (serial (take i m.control) start).machine entry).target ≡ None
-        enough l =
-            let e : word_in (serial (take i m.control) start).machine counter ≡ trips - steps_in counter
-            (take i m.control) = here in
-            ap (λ (a : Act). a.target)
-            ((is_counted entry h).step t (serial (take i m.control) start).machine.base
-            (word_in (serial (take i m.control) start).machine)
-            (byte_in (serial (take i m.control) start).machine) l (omega arith))
-
-        few : word_in (serial (take i m.control) start).machine counter < size_of entry
-            → (act_in (serial (take i m.control) start).machine entry).target ≡ None
-        few l =
-            let e : word_in (serial (take i m.control) start).machine counter ≡ trips - steps_in counter
-            (take i m.control) = here in
-            elim (m.counts i entry at_i t) [
-              | inl u ↦ (let v : steps_in counter (take i m.control) + size_of entry ≤ trips = u in absurd
-                  (omega arith))
-              | inr stops ↦ (let one : size_of entry ≡ 1 = stops.one in
-                  ap (λ (a : Act). a.target)
-                  (stops.stops (serial (take i m.control) start).machine.base
-                  (word_in (serial (take i m.control) start).machine)
-                  (byte_in (serial (take i m.control) start).machine) (omega arith)))
-            ]
+    steps_stay i entry p at_i at_p t = grind (
+      arith,
+      nat_tests,
+      act_at i entry p at_i at_p,
+      at_place m.control i entry at_i,
+      holds i,
+      is_counted entry,
+    )
 
     -- what is no branch goes nowhere
     pub straight : (i : ℕ) (entry : SerialInsn) (p : Placed) → slice_get path i ≡ Some entry

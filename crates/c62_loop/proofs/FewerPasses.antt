@@ -20,8 +20,7 @@ Covered straights trips s a r b s' r' = (t c : ℕ) → t ≤ suc (suc trips) �
 pub within_small : (straights : Straights) (trips t c t' : ℕ) → part straights (suc trips) t ≡ part straights trips t'
     → c < length (part straights (suc trips) t)
     → c < length (part straights trips t')
-within_small straights trips t c t' same l =
-    let n : length (part straights (suc trips) t) ≡ length (part straights trips t') = ap length same in omega arith
+within_small straights trips t c t' same l = grind arith
 
 module _ (straights : Straights) (trips : ℕ) (s a r b s' r' : ℕ) (in_s : s ≤ suc (suc trips))
     (in_r : r ≤ suc (suc trips)) (in_s' : s' ≤ suc trips)

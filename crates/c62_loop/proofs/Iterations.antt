@@ -7,15 +7,13 @@ use Rattle.c62_meaning.proofs.Lookup.{In, In-append_left, In-append_right}
 use Rattle.c62_meaning.proofs.Lookup.{In-append_cases}
 use Rattle.c62_loop.specs.Stage.{Stage, Schedule, round_of, rounds_from}
 use Rattle.c62_loop.specs.Whole.{AreStagesOf}
+use Rattle.std.proofs.lemmas.Bool.Decides.{nat_tests}
 
 module _ (schedule : Schedule) (passes : ℕ) where
   pub in_rounds : (from trips t : ℕ) (behind : List Placed) (p : Placed) → t < trips
       → In p (round_of schedule passes (from + t)) → In p (rounds_from schedule passes from trips behind)
   in_rounds from zero t behind p l h = absurd (omega arith)
-  in_rounds from (suc trips) zero behind p l h =
-      let e : from + 0 ≡ from = omega arith in
-      In-append_left p (round_of schedule passes from) (rounds_from schedule passes (suc from) trips behind)
-      (subst (λ n. In p (round_of schedule passes n)) e h)
+  in_rounds from (suc trips) zero behind p l h = grind (arith, nat_tests, In-append_left)
   in_rounds from (suc trips) (suc t) behind p l h =
       let e : from + suc t ≡ suc from + t = omega arith in
       In-append_right p (round_of schedule passes from) (rounds_from schedule passes (suc from) trips behind)
@@ -33,8 +31,7 @@ module _ (schedule : Schedule) (passes : ℕ) where
   from_rounds from zero behind p h = inl h
   from_rounds from (suc trips) behind p h =
       elim (In-append_cases p (round_of schedule passes from) (rounds_from schedule passes (suc from) trips behind) h) [
-        | inl m ↦ (let e : from ≡ from + 0 = omega arith in inr
-            (0, omega arith, subst (λ n. In p (round_of schedule passes n)) e m))
+        | inl m ↦ grind arith
         | inr m ↦ elim (from_rounds (suc from) trips behind p m) [
           | inl n ↦ inl n
           | inr n ↦ (let l : n.0 < trips = n.1 in
@@ -48,6 +45,5 @@ pub stage_even : (most : ℕ) (entries : List SerialInsn) (stages : List Stage) 
     → (stage : Stage) → In stage stages → length stage.early + length stage.late ≡ most
 stage_even most entries [] h stage k = absurd k
 stage_even most [] (s ∷ stages) h stage k = absurd h
-stage_even most (e ∷ entries) (s ∷ stages) h stage (inl same) = subst
-    (λ (z : Stage). length z.early + length z.late ≡ most) same h.0.even
+stage_even most (e ∷ entries) (s ∷ stages) h stage (inl same) = grind arith
 stage_even most (e ∷ entries) (s ∷ stages) h stage (inr k) = stage_even most entries stages h.1 stage k

@@ -1,5 +1,5 @@
 -- The rows of passes and epilog are those of the first pass, and of an epilog behind the prolog, so many cycles later.
-use Rattle.std.proofs.Common.{◌≡◌, ℕ, zero, suc, ◌+◌, ◌<◌, List, [], ◌∷◌, ◌++◌, map, refl, sym, ◌∙◌, ap, subst, ◌⊎◌}
+use Rattle.std.proofs.Common.{◌≡◌, ℕ, zero, suc, ◌+◌, ◌<◌, List, [], ◌∷◌, ◌++◌, map, refl, ◌∙◌, ap, subst, ◌⊎◌}
 use Rattle.std.proofs.Common.{inl, inr, arith}
 use Rattle.std.proofs.lemmas.List.{map-append}
 use Rattle.std.proofs.lemmas.Grind.{flat_map-append}
@@ -14,6 +14,7 @@ use Rattle.c62_loop.specs.Loop.{Pipelined, kernel_row, epilog_row, prolog_cycles
 use Rattle.c62_loop.specs.Loop.{visits_of}
 use Rattle.c62_loop.specs.Stage.{cycles_in}
 use Rattle.c62_loop.proofs.Lists.{in_mapped}
+use Rattle.std.proofs.lemmas.Bool.Decides.{nat_tests}
 
 -- ---- rows that begin later
 
@@ -26,22 +27,17 @@ module _ (text : Text) (k : ℕ) where
       → issued_on text (straight text row (k + start) count) ≡ map (moved k)
       (issued_on text (straight text row start count))
   rows_later row start zero = refl
-  rows_later row start (suc count) =
-      let e : k + start + (row_of text row).idle + 1 ≡ k + (start + (row_of text row).idle + 1) = omega arith in
-      ap (λ (ps : List Placed). ps ++ issued_on text
-      (straight text (row + 1) (k + start + (row_of text row).idle + 1) count))
-      (insns_later start (row_of text row).insns)
-      ∙ ap (λ (n : ℕ). map (moved k) (map (issue_in start) (row_of text row).insns) ++ issued_on text
-      (straight text (row + 1) n count)) e
-      ∙ ap (λ (ps : List Placed). map (moved k) (map (issue_in start) (row_of text row).insns) ++ ps)
-      (rows_later (row + 1) (start + (row_of text row).idle + 1) count)
-      ∙ sym (map-append (moved k) (map (issue_in start) (row_of text row).insns)
-      (issued_on text (straight text (row + 1) (start + (row_of text row).idle + 1) count)))
+  rows_later row start (suc count) = grind (
+    arith,
+    nat_tests,
+    rows_later (row + 1) (start + (row_of text row).idle + 1) count,
+    insns_later,
+    map-append,
+  )
 
 pub pass_at : (loop : Pipelined) (pass : ℕ) → pass_start loop pass ≡ cycles_in (interval loop) pass + prolog_cycles loop
 pass_at loop zero = omega arith
-pass_at loop (suc pass) = let e : pass_start loop pass ≡ cycles_in (interval loop) pass + prolog_cycles loop = pass_at
-    loop pass in omega arith
+pass_at loop (suc pass) = grind (arith, pass_at loop pass)
 
 module _ (loop : Pipelined) where
   abbrev pub prolog_rows : List Placed
@@ -56,16 +52,12 @@ module _ (loop : Pipelined) where
   one_pass : (pass : ℕ)
       → issued_on loop.text (straight loop.text (kernel_row loop) (pass_start loop pass) loop.kernel) ≡ map
       (moved (cycles_in (interval loop) pass)) kernel_rows
-  one_pass pass =
-      ap (λ n. issued_on loop.text (straight loop.text (kernel_row loop) n loop.kernel)) (pass_at loop pass)
-      ∙ rows_later loop.text (cycles_in (interval loop) pass) (kernel_row loop) (prolog_cycles loop) loop.kernel
+  one_pass pass = grind (arith, nat_tests, pass_at, rows_later)
 
   last_rows : (passes : ℕ)
       → issued_on loop.text (straight loop.text (epilog_row loop) (pass_start loop passes) loop.epilog) ≡ map
       (moved (cycles_in (interval loop) passes)) epilog_rows
-  last_rows passes =
-      ap (λ n. issued_on loop.text (straight loop.text (epilog_row loop) n loop.epilog)) (pass_at loop passes)
-      ∙ rows_later loop.text (cycles_in (interval loop) passes) (epilog_row loop) (prolog_cycles loop) loop.epilog
+  last_rows passes = grind (arith, nat_tests, pass_at, rows_later)
 
   -- what the passes issue
   from_passes : (pass count : ℕ) (p : Placed) → In p (issued_on loop.text (passes_from loop pass count))
@@ -104,31 +96,14 @@ module _ (loop : Pipelined) where
   to_passes : (pass count k : ℕ) (q : Placed) → k < count → In q kernel_rows
       → In (moved (cycles_in (interval loop) (pass + k)) q) (issued_on loop.text (passes_from loop pass count))
   to_passes pass zero k q l h = absurd (omega arith)
-  to_passes pass (suc count) zero q l h =
-      let e : pass ≡ pass + 0 = omega arith in
-      subst (λ n. In (moved (cycles_in (interval loop) n) q) (issued_on loop.text (passes_from loop pass (suc count))))
-      e
-      (subst (λ ps. In (moved (cycles_in (interval loop) pass) q) ps)
-      (sym (flat_map-append (issued_in loop.text)
-      (straight loop.text (kernel_row loop) (pass_start loop pass) loop.kernel)
-      (passes_from loop (suc pass) count)))
-      (In-append_left (moved (cycles_in (interval loop) pass) q)
-      (issued_on loop.text (straight loop.text (kernel_row loop) (pass_start loop pass) loop.kernel))
-      (issued_on loop.text (passes_from loop (suc pass) count))
-      (subst (λ ps. In (moved (cycles_in (interval loop) pass) q) ps) (sym (one_pass pass))
-      (in_map (moved (cycles_in (interval loop) pass)) q kernel_rows h))))
-  to_passes pass (suc count) (suc k) q l h =
-      let e : suc pass + k ≡ pass + suc k = omega arith in
-      subst (λ n. In (moved (cycles_in (interval loop) n) q) (issued_on loop.text (passes_from loop pass (suc count))))
-      e
-      (subst (λ ps. In (moved (cycles_in (interval loop) (suc pass + k)) q) ps)
-      (sym (flat_map-append (issued_in loop.text)
-      (straight loop.text (kernel_row loop) (pass_start loop pass) loop.kernel)
-      (passes_from loop (suc pass) count)))
-      (In-append_right (moved (cycles_in (interval loop) (suc pass + k)) q)
-      (issued_on loop.text (straight loop.text (kernel_row loop) (pass_start loop pass) loop.kernel))
-      (issued_on loop.text (passes_from loop (suc pass) count))
-      (to_passes (suc pass) count k q (omega arith) h)))
+  to_passes pass (suc count) zero q l h = grind (arith, nat_tests, flat_map-append, In-append_left, one_pass, in_map)
+  to_passes pass (suc count) (suc k) q l h = grind (
+    arith,
+    nat_tests,
+    to_passes (suc pass) count k q,
+    flat_map-append,
+    In-append_right,
+  )
 
   module _ (passes : ℕ) where
     abbrev behind_rows : List Placed
@@ -136,13 +111,7 @@ module _ (loop : Pipelined) where
 
     visits_are : issued_on loop.text (visits_of loop passes) ≡ prolog_rows ++
         (issued_on loop.text (passes_from loop 0 passes) ++ behind_rows)
-    visits_are =
-        flat_map-append (issued_in loop.text) (straight loop.text loop.first 0 loop.prolog)
-        (passes_from loop 0 passes ++ straight loop.text (epilog_row loop) (pass_start loop passes) loop.epilog)
-        ∙ ap (λ (ps : List Placed). prolog_rows ++ ps)
-        (flat_map-append (issued_in loop.text) (passes_from loop 0 passes)
-        (straight loop.text (epilog_row loop) (pass_start loop passes) loop.epilog)
-        ∙ ap (λ (ps : List Placed). issued_on loop.text (passes_from loop 0 passes) ++ ps) (last_rows passes))
+    visits_are = grind (arith, nat_tests, flat_map-append, last_rows)
 
     -- a row is one of the prolog, of a pass, or of the epilog
     pub from_rows : (p : Placed) → In p (issued_on loop.text (visits_of loop passes))
@@ -168,26 +137,18 @@ module _ (loop : Pipelined) where
         ]
 
     pub prolog_there : (p : Placed) → In p prolog_rows → In p (issued_on loop.text (visits_of loop passes))
-    prolog_there p h = subst (λ ps. In p ps) (sym visits_are)
-        (In-append_left p prolog_rows (issued_on loop.text (passes_from loop 0 passes) ++ behind_rows) h)
+    prolog_there p h = grind (arith, visits_are, In-append_left p)
 
     pub pass_there : (k : ℕ) (q : Placed) → k < passes → In q kernel_rows
         → In (moved (cycles_in (interval loop) k) q) (issued_on loop.text (visits_of loop passes))
-    pass_there k q l h =
-        let e : 0 + k ≡ k = omega arith in
-        subst (λ ps. In (moved (cycles_in (interval loop) k) q) ps) (sym visits_are)
-        (In-append_right (moved (cycles_in (interval loop) k) q) prolog_rows
-        (issued_on loop.text (passes_from loop 0 passes) ++ behind_rows)
-        (In-append_left (moved (cycles_in (interval loop) k) q) (issued_on loop.text (passes_from loop 0 passes))
-        behind_rows
-        (subst (λ n. In (moved (cycles_in (interval loop) n) q) (issued_on loop.text (passes_from loop 0 passes))) e
-        (to_passes 0 passes k q l h))))
+    pass_there k q l h = grind (
+      arith,
+      visits_are,
+      In-append_right (moved (cycles_in (interval loop) k) q),
+      In-append_left (moved (cycles_in (interval loop) k) q) (issued_on loop.text (passes_from loop 0 passes)),
+      to_passes 0 passes k q l h,
+    )
 
     pub epilog_there : (q : Placed) → In q epilog_rows
         → In (moved (cycles_in (interval loop) passes) q) (issued_on loop.text (visits_of loop passes))
-    epilog_there q h =
-        subst (λ ps. In (moved (cycles_in (interval loop) passes) q) ps) (sym visits_are)
-        (In-append_right (moved (cycles_in (interval loop) passes) q) prolog_rows
-        (issued_on loop.text (passes_from loop 0 passes) ++ behind_rows)
-        (In-append_right (moved (cycles_in (interval loop) passes) q) (issued_on loop.text (passes_from loop 0 passes))
-        behind_rows (in_map (moved (cycles_in (interval loop) passes)) q epilog_rows h)))
+    epilog_there q h = grind (arith, nat_tests, visits_are, In-append_right, in_map)

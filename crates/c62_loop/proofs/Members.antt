@@ -20,6 +20,7 @@ use Rattle.c62_loop.proofs.Instances.{instance_early, instance_pass, instance_la
 use Rattle.c62_loop.proofs.PassControl.{control_from, control_of, in_pass}
 use Rattle.c62_loop.proofs.LaterRows.{prolog_rows, kernel_rows, epilog_rows, from_rows, prolog_there, pass_there}
 use Rattle.c62_loop.proofs.LaterRows.{epilog_there}
+use Rattle.std.proofs.lemmas.Bool.Decides.{nat_tests}
 
 -- the rows hold these stages and steps, and what stands before the loop and behind it
 pub record RowsAre (loop : Pipelined) (schedule : Schedule) (steps : Control) : Type 0 where
@@ -78,8 +79,7 @@ module _ (loop : Pipelined) (passes : ℕ) (schedule : Schedule) (steps : Contro
   as_instance : (stage : Stage) (t : ℕ) (p : Placed) → In stage schedule.stages
       → t < length stage.early + length stage.late + passes → instance_of schedule.interval passes t stage ≡ p
       → In p all
-  as_instance stage t p h l e =
-      as_work p (In-append_right p schedule.before rest (subst (λ q. In q rest) e (is.held stage t h l)))
+  as_instance stage t p h l e = grind (arith, as_work p, In-append_right p schedule.before rest)
 
   as_behind : (p : Placed) → In p behind → In p all
   as_behind p h = as_work p (In-append_right p schedule.before rest (is.behinds p h))
@@ -108,19 +108,13 @@ module _ (loop : Pipelined) (passes : ℕ) (schedule : Schedule) (steps : Contro
   in_control_pass : (kernel : List Placed) (pass count k : ℕ) (q : Placed) → k < count → In q kernel
       → In (moved (cycles_in (interval loop) (pass + k)) q) (control_from kernel (interval loop) pass count)
   in_control_pass kernel pass zero k q l h = absurd (omega arith)
-  in_control_pass kernel pass (suc count) zero q l h =
-      let e : pass ≡ pass + 0 = omega arith in
-      subst (λ n. In (moved (cycles_in (interval loop) n) q) (control_from kernel (interval loop) pass (suc count))) e
-      (In-append_left (moved (cycles_in (interval loop) pass) q) (map (moved (cycles_in (interval loop) pass)) kernel)
-      (control_from kernel (interval loop) (suc pass) count)
-      (in_map (moved (cycles_in (interval loop) pass)) q kernel h))
-  in_control_pass kernel pass (suc count) (suc k) q l h =
-      let e : suc pass + k ≡ pass + suc k = omega arith in
-      subst (λ n. In (moved (cycles_in (interval loop) n) q) (control_from kernel (interval loop) pass (suc count))) e
-      (In-append_right (moved (cycles_in (interval loop) (suc pass + k)) q)
-      (map (moved (cycles_in (interval loop) pass)) kernel)
-      (control_from kernel (interval loop) (suc pass) count)
-      (in_control_pass kernel (suc pass) count k q (omega arith) h))
+  in_control_pass kernel pass (suc count) zero q l h = grind (arith, nat_tests, In-append_left, in_map)
+  in_control_pass kernel pass (suc count) (suc k) q l h = grind (
+    arith,
+    nat_tests,
+    in_control_pass kernel (suc pass) count k q,
+    In-append_right,
+  )
 
   kernel_is : (k : ℕ) (q : Placed) → k < passes → In q (kernel_rows loop)
       → In (moved (cycles_in (interval loop) k) q) all
@@ -128,13 +122,13 @@ module _ (loop : Pipelined) (passes : ℕ) (schedule : Schedule) (steps : Contro
       elim (In-append_cases q steps.kernel (map (λ (stage : Stage). stage.kernel) schedule.stages)
       (In_from_Contains q (steps.kernel ++ map (λ (stage : Stage). stage.kernel) schedule.stages)
       ((rows.kernel q).0 (Contains_from_In q (kernel_rows loop) h)))) [
-        | inl n ↦ (let e : 0 + k ≡ k = omega arith in
-            as_control (moved (cycles_in (interval loop) k) q)
-            (In-append_right (moved (cycles_in (interval loop) k) q) steps.early
-            (control_from steps.kernel (interval loop) 0 passes)
-            (subst (λ j. In (moved (cycles_in (interval loop) j) q)
-            (control_from steps.kernel (interval loop) 0 passes)) e
-            (in_control_pass steps.kernel 0 passes k q l n))))
+        | inl n ↦ grind (
+          arith,
+          as_control (moved (cycles_in (interval loop) k) q),
+          In-append_right (moved (cycles_in (interval loop) k) q) steps.early (control_from steps.kernel (interval
+              loop) 0 passes),
+          in_control_pass steps.kernel 0 passes k q l n,
+        )
         | inr n ↦ (let r = in_mapped (λ (stage : Stage). stage.kernel) schedule.stages q n in
             let e : length r.0.early + k - length r.0.early ≡ k = omega arith in
             as_instance r.0 (length r.0.early + k) (moved (cycles_in (interval loop) k) q) r.1 (omega arith)
@@ -204,9 +198,7 @@ module _ (loop : Pipelined) (passes : ℕ) (schedule : Schedule) (steps : Contro
   control_row p h =
       let passed = control_from steps.kernel (interval loop) 0 passes in
       elim (In-append_cases p steps.early passed h) [
-        | inl n ↦ early_row p
-            (In-append_left p steps.early
-            (schedule.before ++ flat_map (λ (stage : Stage). stage.early) schedule.stages) n)
+        | inl n ↦ grind (arith, early_row p, In-append_left p steps.early)
         | inr n ↦ (let r = in_pass steps.kernel (interval loop) 0 passes p n in
             let e : 0 + r.0 ≡ r.0 = omega arith in
             subst (λ z. In z issued) (sym (r.4 ∙ ap (λ j. moved (cycles_in (interval loop) j) r.2) e))
@@ -229,12 +221,14 @@ module _ (loop : Pipelined) (passes : ℕ) (schedule : Schedule) (steps : Contro
       (In-flat_map (λ (s : Stage). s.early) (get_or stage.early t stage.kernel) stage schedule.stages h
       (in_at stage.early t stage.kernel u))))))
       (λ (u : length stage.early ≤ t). ⊎_elim {C = In (instance_of schedule.interval passes t stage) issued}
-      (λ (v : t < length stage.early + passes). subst (λ z. In z issued)
-      (sym (instance_pass schedule.interval stage passes t u v
-      ∙ ap (λ c. moved c stage.kernel) (cycles_same (t - length stage.early))))
-      (pass_row (t - length stage.early) stage.kernel (omega arith)
-      (In-append_right stage.kernel steps.kernel (map (λ (s : Stage). s.kernel) schedule.stages)
-      (in_map (λ (s : Stage). s.kernel) stage schedule.stages h))))
+      (λ (v : t < length stage.early + passes). grind (
+        arith,
+        instance_pass schedule.interval stage passes t u v,
+        cycles_same (t - length stage.early),
+        pass_row (t - length stage.early) stage.kernel,
+        In-append_right stage.kernel steps.kernel,
+        in_map,
+      ))
       (λ (v : length stage.early + passes ≤ t).
       subst (λ z. In z issued) (sym (instance_late schedule.interval stage passes t v
       ∙ ap (λ c. moved c (get_or stage.late (t - (length stage.early + passes)) stage.kernel))
@@ -250,19 +244,14 @@ module _ (loop : Pipelined) (passes : ℕ) (schedule : Schedule) (steps : Contro
 
   work_row : (p : Placed) → In p work → In p issued
   work_row p h = elim (In-append_cases p schedule.before rest h) [
-    | inl n ↦ early_row p
-        (In-append_right p steps.early
-        (schedule.before ++ flat_map (λ (stage : Stage). stage.early) schedule.stages)
-        (In-append_left p schedule.before (flat_map (λ (stage : Stage). stage.early) schedule.stages) n))
+    | inl n ↦ grind (arith, early_row p, In-append_right p steps.early, In-append_left p schedule.before)
     | inr n ↦ by_kind (is.from p n)
   ]
     where
       by_kind : In p behind ⊎ IsInstance schedule passes p → In p issued
       by_kind (inl k) =
           let r = in_mapped (moved (cycles_in schedule.interval passes)) schedule.behind p k in
-          subst (λ z. In z issued) (sym (r.2 ∙ ap (λ c. moved c r.0) (cycles_same passes)))
-          (late_row r.0 (In-append_right r.0 (flat_map (λ (stage : Stage). stage.late) schedule.stages)
-          schedule.behind r.1))
+          grind (arith, cycles_same passes, late_row r.0, In-append_right r.0)
       by_kind (inr (stage, t, k, l, e)) = subst (λ z. In z issued) (sym e) (instance_row stage t k l)
 
   -- the instructions above the label, the control, and the work of the loop
@@ -275,10 +264,13 @@ module _ (loop : Pipelined) (passes : ℕ) (schedule : Schedule) (steps : Contro
       there : In p all → In p (schedule.before ++ (control ++ rest))
       there h = elim (In-append_cases p control work h) [
         | inl n ↦ In-append_right p schedule.before (control ++ rest) (In-append_left p control rest n)
-        | inr n ↦ elim (In-append_cases p schedule.before rest n) [
-          | inl k ↦ In-append_left p schedule.before (control ++ rest) k
-          | inr k ↦ In-append_right p schedule.before (control ++ rest) (In-append_right p control rest k)
-        ]
+        | inr n ↦ grind (
+          arith,
+          In-append_cases p schedule.before rest n,
+          In-append_left p schedule.before,
+          In-append_right p schedule.before,
+          In-append_right p,
+        )
       ]
 
       row : In p (schedule.before ++ (control ++ rest)) → In p issued

@@ -1,11 +1,12 @@
 -- Parts of a path: what stands before the loop, its iterations, and what stands behind it.
-use Rattle.std.proofs.Common.{◌≡◌, ◌≢◌, ℕ, zero, suc, ◌+◌, ◌-◌, ◌<◌, ◌≤◌, cond, ltb, List, length, refl, sym, ◌∙◌, ap}
-use Rattle.std.proofs.Common.{◌⊎◌, inl, inr, ⊎_elim, arith}
+use Rattle.std.proofs.Common.{◌≡◌, ℕ, zero, suc, ◌+◌, ◌-◌, ◌<◌, ◌≤◌, cond, ltb, List, length, ◌∙◌, ap}
+use Rattle.std.proofs.Common.{◌⊎◌, arith}
 use Rattle.std.specs.Prelude.{slice_get}
-use Rattle.std.proofs.lemmas.Bool.{cases_lt, cases_eq, cond-true, cond-false, lt-ltb, le-ltb}
+use Rattle.std.proofs.lemmas.Bool.{cond-true, cond-false, lt-ltb, le-ltb}
 use Rattle.c62_insn.specs.declared.insn.Insn.{Insn}
 use Rattle.c62_loop.specs.Stage.{Straights, rounds_with, insns_of, begin_of}
 use Rattle.c62_loop.proofs.Lists.{get_front, get_back}
+use Rattle.std.proofs.lemmas.Bool.Decides.{nat_tests}
 
 -- so many places in so many rounds
 abbrev pub rows : ℕ → ℕ → ℕ
@@ -43,19 +44,13 @@ module _ (straights : Straights) where
       let e : 0 + a ≡ a = omega arith in
       ap (λ n. slice_get (rounds_with straights.body (suc trips) straights.behind) n) e
       ∙ get_front straights.body (rounds_with straights.body trips straights.behind) a u
-  in_rounds (suc trips) (suc t) a l u =
-      get_back straights.body (rounds_with straights.body trips straights.behind)
-      (length straights.body + rows (length straights.body) t + a)
-      (rows (length straights.body) t + a) (omega arith) ∙ in_rounds trips t a (omega arith) u
+  in_rounds (suc trips) (suc t) a l u = grind (arith, nat_tests, in_rounds trips t a, get_back)
 
   behind_rounds : (trips a : ℕ)
       → slice_get (rounds_with straights.body trips straights.behind) (rows (length straights.body) trips + a) ≡
       slice_get straights.behind a
   behind_rounds zero a = let e : 0 + a ≡ a = omega arith in ap (λ n. slice_get straights.behind n) e
-  behind_rounds (suc trips) a =
-      get_back straights.body (rounds_with straights.body trips straights.behind)
-      (length straights.body + rows (length straights.body) trips + a)
-      (rows (length straights.body) trips + a) (omega arith) ∙ behind_rounds trips a
+  behind_rounds (suc trips) a = grind (arith, nat_tests, behind_rounds trips a, get_back)
 
   pub part_at : (trips s a : ℕ) → s ≤ suc trips → a < length (part straights trips s)
       → slice_get (insns_of straights trips) (begin straights s + a) ≡ slice_get (part straights trips s) a
@@ -63,40 +58,26 @@ module _ (straights : Straights) where
       let e : 0 + a ≡ a = omega arith in
       ap (λ n. slice_get (insns_of straights trips) n) e
       ∙ get_front straights.before (rounds_with straights.body trips straights.behind) a u
-  part_at trips (suc t) a l u =
-      get_back straights.before (rounds_with straights.body trips straights.behind)
-      (length straights.before + rows (length straights.body) t + a) (rows (length straights.body) t + a)
-      (omega arith)
-      ∙ ⊎_elim {C = slice_get (rounds_with straights.body trips straights.behind) (rows (length straights.body) t + a) ≡
-      slice_get (part straights trips (suc t)) a}
-      (λ (k : t < trips).
-      let n : length (part straights trips (suc t)) ≡ length straights.body = ap length (part_body trips t k) in
-      in_rounds trips t a k (omega arith) ∙ ap (λ xs. slice_get xs a) (sym (part_body trips t k)))
-      (λ (k : trips ≤ t).
-      let e : t ≡ trips = omega arith in
-      ap (λ n. slice_get (rounds_with straights.body trips straights.behind) (rows (length straights.body) n + a)) e
-      ∙ behind_rounds trips a ∙ ap (λ xs. slice_get xs a) (sym (part_behind trips t k)))
-      (cases_lt t trips)
+  part_at trips (suc t) a l u = grind (
+    arith,
+    get_back straights.before (rounds_with straights.body trips straights.behind),
+    part_body trips t,
+    in_rounds trips t a,
+    behind_rounds trips a,
+    part_behind trips t,
+  )
 
   -- with an iteration more each part behind the loop's first comes one later
   pub part_next : (trips s : ℕ) → 1 ≤ s → part straights (suc trips) (suc s) ≡ part straights trips s
-  part_next trips zero l = absurd (omega arith)
-  part_next trips (suc t) l =
-      ⊎_elim {C = part straights (suc trips) (suc (suc t)) ≡ part straights trips (suc t)}
-      (λ (k : t < trips). part_body (suc trips) (suc t) (omega arith) ∙ sym (part_body trips t k))
-      (λ (k : trips ≤ t). part_behind (suc trips) (suc t) (omega arith) ∙ sym (part_behind trips t k))
-      (cases_lt t trips)
+  part_next trips s l = grind arith
 
   pub part_same : (trips s : ℕ) → s ≤ trips → part straights (suc trips) s ≡ part straights trips s
-  part_same trips zero l = refl
-  part_same trips (suc t) l = part_body (suc trips) t (omega arith) ∙ sym (part_body trips t (omega arith))
+  part_same trips s l = grind arith
 
   -- parts come one behind the other
   pub next_begins : (trips s : ℕ) → s ≤ trips
       → begin straights (suc s) ≡ begin straights s + length (part straights trips s)
-  next_begins trips zero l = omega arith
-  next_begins trips (suc t) l = let n : length (part straights trips (suc t)) ≡ length straights.body = ap length
-      (part_body trips t (omega arith)) in omega arith
+  next_begins trips s l = grind arith
 
   pub begin_is : (t : ℕ) → begin straights (suc t) ≡ begin_of straights t
   begin_is zero = omega arith
@@ -105,35 +86,18 @@ module _ (straights : Straights) where
   pub begins_rise : (s r : ℕ) → s ≤ r → begin straights s ≤ begin straights r
   begins_rise zero r l = omega arith
   begins_rise (suc t) zero l = absurd (omega arith)
-  begins_rise (suc t) (suc u) l =
-      let e : u - t + t ≡ u = omega arith in
-      let k : rows (length straights.body) t ≤ rows (length straights.body) (u - t + t) = rows_rise
-      (length straights.body) t (u - t) in
-      let f : rows (length straights.body) (u - t + t) ≡ rows (length straights.body) u = ap
-      (rows (length straights.body)) e in omega arith
+  begins_rise (suc t) (suc u) l = grind (arith, rows_rise (length straights.body) t (u - t))
 
   pub below : (trips s r a : ℕ) → s < r → r ≤ suc trips → a < length (part straights trips s)
       → begin straights s + a < begin straights r
-  below trips s r a l u w =
-      let e : begin straights (suc s) ≡ begin straights s + length (part straights trips s) = next_begins trips s
-      (omega arith) in
-      let k : begin straights (suc s) ≤ begin straights r = begins_rise (suc s) r l in omega arith
+  below trips s r a l u w = grind (arith, next_begins trips s, begins_rise (suc s) r l)
 
   -- of two numbers the lower is of an earlier part, or stands earlier in the same
   pub in_order : (trips s r a b : ℕ) → s ≤ suc trips → b < length (part straights trips r)
       → begin straights s + a ≤ begin straights r + b → (s < r)
       ⊎ ((s ≡ r) × (a ≤ b))
-  in_order trips s r a b u w l =
-      ⊎_elim {C = (s < r) ⊎ ((s ≡ r) × (a ≤ b))} (λ (k : s < r). inl k)
-      (λ (k : r ≤ s). ⊎_elim {C = (s < r) ⊎ ((s ≡ r) × (a ≤ b))}
-      (λ (e : r ≡ s). let f : begin straights r ≡ begin straights s = ap (begin straights) e in inr
-      (sym e, omega arith))
-      (λ (ne : r ≢ s). let k : begin straights r + b < begin straights s = below trips r s b (omega arith) u w in absurd
-      (omega arith))
-      (cases_eq r s))
-      (cases_lt s r)
+  in_order trips s r a b u w l = grind (arith, below trips r s b)
 
   -- a part behind the loop's first comes as many numbers later as the loop has
   pub comes_behind : (s : ℕ) → 1 ≤ s → begin straights (suc s) ≡ begin straights s + length straights.body
-  comes_behind zero l = absurd (omega arith)
-  comes_behind (suc t) l = omega arith
+  comes_behind s l = grind arith

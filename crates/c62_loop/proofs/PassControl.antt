@@ -1,7 +1,7 @@
 -- The steps and branches of a pipelined loop, in any number of passes.
 use Rattle.std.proofs.Common.{◌≡◌, ℕ, zero, suc, ◌+◌, ◌<◌, ◌≤◌, List, [], ◌∷◌, ◌++◌}
 use Rattle.std.proofs.Common.{map, length, take, Some, refl, ◌∙◌, ap, inl, inr, ⊎_elim, arith}
-use Rattle.std.specs.Prelude.{slice_get, option_map}
+use Rattle.std.specs.Prelude.{slice_get}
 use Rattle.std.proofs.lemmas.Bool.{cases_lt}
 use Rattle.std.proofs.lemmas.Option.{none-some, slice_get-map}
 use Rattle.c62_op.specs.declared.register.Reg.{Reg}
@@ -13,6 +13,7 @@ use Rattle.c62_loop.specs.Stage.{cycles_in}
 use Rattle.c62_loop.specs.Whole.{Control, entry_of, steps_of}
 use Rattle.c62_loop.proofs.Lists.{get_cases, taken_whole, taken_more, take_map, from_mapped, in_mapped}
 use Rattle.c62_loop.proofs.Counting.{steps_both}
+use Rattle.std.proofs.lemmas.Bool.Decides.{nat_tests}
 
 -- ---- passes
 
@@ -26,14 +27,11 @@ abbrev pub control_of : Control → ℕ → ℕ → List Placed
 control_of control interval passes = control.early ++ control_from control.kernel interval 0 passes
 
 pub later_passes : (interval pass other : ℕ) → pass ≤ other → cycles_in interval pass ≤ cycles_in interval other
-later_passes interval pass zero l = let e : pass ≡ 0 = omega arith in let f : cycles_in interval pass ≡ cycles_in
-    interval 0 = ap (cycles_in interval) e in omega arith
+later_passes interval pass zero l = grind arith
 later_passes interval pass (suc other) l =
     ⊎_elim {C = cycles_in interval pass ≤ cycles_in interval (suc other)}
-    (λ (u : pass < suc other). let k : cycles_in interval pass ≤ cycles_in interval other = later_passes interval pass
-    other (omega arith) in omega arith)
-    (λ (u : suc other ≤ pass). let e : pass ≡ suc other = omega arith in let f : cycles_in interval pass ≡ cycles_in
-    interval (suc other) = ap (cycles_in interval) e in omega arith)
+    (λ (u : pass < suc other). grind (arith, later_passes interval pass other))
+    (λ (u : suc other ≤ pass). let e : pass ≡ suc other = omega arith in grind arith)
     (cases_lt pass (suc other))
 
 pub in_pass : (kernel : List Placed) (interval pass count : ℕ) (p : Placed)
@@ -69,12 +67,10 @@ pub pass_in : (kernel : List Placed) (interval pass count k a : ℕ) (q : Placed
     → (i : ℕ) × (slice_get (control_from kernel interval pass count) i ≡ Some (moved (cycles_in interval (pass + k)) q))
 pass_in kernel interval pass zero k a q l at = absurd (omega arith)
 pass_in kernel interval pass (suc count) zero a q l at =
-    let e : pass ≡ pass + 0 = omega arith in (
-      a,
-      front (map (moved (cycles_in interval pass)) kernel) a (moved (cycles_in interval pass) q)
-          (slice_get-map (moved (cycles_in interval pass)) kernel a
-          ∙ ap (λ o. option_map (moved (cycles_in interval pass)) o) at)
-          ∙ ap (λ n. Some (moved (cycles_in interval n) q)) e,
+    let e : pass ≡ pass + 0 = omega arith in grind (
+      arith,
+      front (map (moved (cycles_in interval pass)) kernel) a (moved (cycles_in interval pass) q),
+      slice_get-map (moved (cycles_in interval pass)) kernel a,
     )
   where
     front : (xs : List Placed) (i : ℕ) (x : Placed) → slice_get xs i ≡ Some x
@@ -84,16 +80,12 @@ pass_in kernel interval pass (suc count) zero a q l at =
     front (y ∷ xs) (suc i) x e = front xs i x e
 pass_in kernel interval pass (suc count) (suc k) a q l at =
     let r = pass_in kernel interval (suc pass) count k a q (omega arith) at in
-    let e : suc pass + k ≡ pass + suc k = omega arith in (
-      length (map (moved (cycles_in interval pass)) kernel) + r.0,
-      back (map (moved (cycles_in interval pass)) kernel) r.0 ∙ r.1 ∙ ap (λ n. Some (moved (cycles_in interval n) q)) e,
-    )
+    grind (arith, back (map (moved (cycles_in interval pass)) kernel) r.0)
   where
     back : (xs : List Placed) (i : ℕ)
         → slice_get (xs ++ control_from kernel interval (suc pass) count) (length xs + i) ≡ slice_get
         (control_from kernel interval (suc pass) count) i
-    back [] i = let e : 0 + i ≡ i = omega arith in ap (λ n. slice_get (control_from kernel interval (suc pass) count) n)
-        e
+    back [] i = let e : 0 + i ≡ i = omega arith in grind arith
     back (x ∷ xs) i =
         let e : suc (length xs) + i ≡ suc (length xs + i) = omega arith in
         ap (λ n. slice_get (x ∷ (xs ++ control_from kernel interval (suc pass) count)) n) e ∙ back xs i
@@ -119,16 +111,7 @@ module _ (counter : Reg) where
   module _ (kernel : List Placed) (interval : ℕ) (one : steps_of counter kernel ≡ 1) where
     pub steps_passes : (pass count : ℕ) → steps_of counter (control_from kernel interval pass count) ≡ count
     steps_passes pass zero = refl
-    steps_passes pass (suc count) =
-        let a : steps_of counter
-        (map (moved (cycles_in interval pass)) kernel ++ control_from kernel interval (suc pass) count)
-        ≡ steps_of counter (map (moved (cycles_in interval pass)) kernel) + steps_of counter
-        (control_from kernel interval (suc pass) count)
-        = steps_joined (map (moved (cycles_in interval pass)) kernel) (control_from kernel interval (suc pass) count) in
-        let b : steps_of counter (map (moved (cycles_in interval pass)) kernel) ≡ steps_of counter kernel = steps_moved
-        (cycles_in interval pass) kernel in
-        let c : steps_of counter (control_from kernel interval (suc pass) count) ≡ count = steps_passes (suc pass) count
-        in omega arith
+    steps_passes pass (suc count) = grind (arith, nat_tests, steps_passes (suc pass) count, steps_joined, steps_moved)
 
     -- of which pass a number is, and how many steps are before it
     pub pass_of : (pass count i : ℕ) (p : Placed) → slice_get (control_from kernel interval pass count) i ≡ Some p

@@ -12,18 +12,17 @@ use Rattle.c62_flight.proofs.Straight.{end_later}
 use Rattle.c62_loop.specs.Along.{LeadAlong}
 use Rattle.c62_loop.specs.Loop.{Pipelined, kernel_row, epilog_row, last_row, interval, pass_start, passes_from}
 use Rattle.c62_loop.specs.Loop.{visits_of, cycles_of, IsPipelined}
+use Rattle.std.proofs.lemmas.Bool.Decides.{nat_tests}
 
 -- rows that begin later are over later
 pub end_from : (text : Text) (row start count : ℕ)
     → straight_end text row start count ≡ start + straight_end text row 0 count
 end_from text row start zero = omega arith
-end_from text row start (suc count) =
-    let here : straight_end text (row + 1) (start + (row_of text row).idle + 1) count ≡ start + (row_of text row).idle +
-    1 + straight_end text (row + 1) 0 count
-    = end_from text (row + 1) (start + (row_of text row).idle + 1) count in
-    let there : straight_end text (row + 1) (0 + (row_of text row).idle + 1) count ≡ 0 + (row_of text row).idle + 1 +
-    straight_end text (row + 1) 0 count
-    = end_from text (row + 1) (0 + (row_of text row).idle + 1) count in omega arith
+end_from text row start (suc count) = grind (
+  arith,
+  end_from text (row + 1) (start + (row_of text row).idle + 1) count,
+  end_from text (row + 1) (0 + (row_of text row).idle + 1) count,
+)
 
 module _ (text : Text) (issued : Issued) where
   abbrev Along : Position → ℕ → List Visit → Position → ℕ → Type 0
@@ -32,14 +31,10 @@ module _ (text : Text) (issued : Issued) where
   pub along_both : (position middle : Position) (cycle t : ℕ) (visits others : List Visit) (last : Position) (end : ℕ)
       → Along position cycle visits middle t → Along middle t others last end
       → Along position cycle (visits ++ others) last end
-  along_both position middle cycle t [] others last end one other =
-      subst (λ c. Along position c others last end) one.1 (subst (λ p. Along p t others last end) one.0 other)
-  along_both position middle cycle t (visit ∷ visits) others last end one other = (
-    one.0,
-    one.1,
-    one.2,
-    along_both (stands_after text issued visit) middle (over_of text issued visit) t visits
-        others last end one.3 other,
+  along_both position middle cycle t [] others last end one other = grind arith
+  along_both position middle cycle t (visit ∷ visits) others last end one other = grind (
+    arith,
+    along_both (stands_after text issued visit) middle (over_of text issued visit) t visits others last end one.3 other,
   )
 
   abbrev QuietBetween : ℕ → ℕ → Type 0
@@ -62,114 +57,47 @@ module _ (text : Text) (issued : Issued) where
       → Along (At row) start (straight text row start (suc count))
       (position_after text (row + count) (turn issued (straight_end text row start (suc count))))
       (straight_end text row start (suc count))
-  rows_along row start zero inside quiet =
-      let over_here : start + (row_of text row).idle + 1 ≡ over issued start (row_of text row).idle = over_is row start
-      quiet in
-      let same : row + 0 ≡ row = omega arith in (
-        refl,
-        refl,
-        omega arith,
-        (
-          ap (λ n. position_after text n (turn issued (start + (row_of text row).idle + 1))) same
-              ∙ ap (λ c. position_after text row (turn issued c)) over_here,
-          over_here,
-        ),
-      )
-  rows_along row start (suc count) inside quiet =
-      let later : start + (row_of text row).idle + 1 < straight_end text (row + 1) (start + (row_of text row).idle + 1)
-      (suc count)
-      = (let l : start + (row_of text row).idle + 1 + (row_of text (row + 1)).idle + 1 ≤ straight_end text (row + 1 + 1)
-      (start + (row_of text row).idle + 1 + (row_of text (row + 1)).idle + 1) count
-      = end_later text (row + 1 + 1) (start + (row_of text row).idle + 1 + (row_of text (row + 1)).idle + 1) count in
-      omega arith) in
-      let over_here : start + (row_of text row).idle + 1 ≡ over issued start (row_of text row).idle = over_is row start
-      (λ c l u. quiet c l (omega arith)) in
-      let none : turn issued (start + (row_of text row).idle + 1) ≡ None = quiet (start + (row_of text row).idle + 1)
-      (omega arith) later in
-      let stands : At (row + 1) ≡ position_after text row (turn issued (over issued start (row_of text row).idle))
-      = ap (λ o. position_after text row o) (sym none) ∙ ap (λ c. position_after text row (turn issued c)) over_here in
-      let same : row + 1 + count ≡ row + suc count = omega arith in
-      let end : ℕ = straight_end text (row + 1) (start + (row_of text row).idle + 1) (suc count) in
-      let rest : Along (At (row + 1)) (start + (row_of text row).idle + 1)
-      (straight text (row + 1) (start + (row_of text row).idle + 1) (suc count))
-      (position_after text (row + 1 + count) (turn issued end)) end
-      = rows_along (row + 1) (start + (row_of text row).idle + 1) count (omega arith) (λ c l u. quiet c (omega arith) u)
-      in (
-        refl,
-        refl,
-        omega arith,
-        subst (λ n. Along (position_after text row (turn issued (over issued start (row_of text row).idle)))
-            (over issued start (row_of text row).idle)
-            (straight text (row + 1) (start + (row_of text row).idle + 1) (suc count))
-            (position_after text n (turn issued end)) end) same
-            (subst (λ p. Along p (over issued start (row_of text row).idle)
-            (straight text (row + 1) (start + (row_of text row).idle + 1) (suc count))
-            (position_after text (row + 1 + count) (turn issued end)) end) stands
-            (subst (λ c. Along (At (row + 1)) c
-            (straight text (row + 1) (start + (row_of text row).idle + 1) (suc count))
-            (position_after text (row + 1 + count) (turn issued end)) end) over_here rest)),
-      )
+  rows_along row start zero inside quiet = grind (arith, over_is row start quiet)
+  rows_along row start (suc count) inside quiet = grind (
+    arith,
+    nat_tests,
+    rows_along (row + 1) (start + (row_of text row).idle + 1) count,
+    end_later,
+    over_is,
+  )
 
   -- where nothing turns, to the row behind them
   pub rows_straight : (row start count : ℕ) → row + count ≤ length text.rows
       → ((c : ℕ) → start < c → c ≤ straight_end text row start count → turn issued c ≡ None)
       → Along (At row) start (straight text row start count) (At (row + count)) (straight_end text row start count)
   rows_straight row start zero inside quiet = (let e : row + 0 ≡ row = omega arith in ap At e, refl)
-  rows_straight row start (suc count) inside quiet =
-      let later : start < straight_end text row start (suc count)
-      = (let l : start + (row_of text row).idle + 1 ≤ straight_end text (row + 1) (start + (row_of text row).idle + 1)
-      count
-      = end_later text (row + 1) (start + (row_of text row).idle + 1) count in omega arith) in
-      let same : row + count + 1 ≡ row + suc count = omega arith in
-      let last : position_after text (row + count) (turn issued (straight_end text row start (suc count))) ≡ At
-      (row + suc count)
-      = ap (λ o. position_after text (row + count) o)
-      (quiet (straight_end text row start (suc count)) later (omega arith)) ∙ ap At same in
-      subst (λ p. Along (At row) start (straight text row start (suc count)) p
-      (straight_end text row start (suc count))) last
-      (rows_along row start count inside (λ c l u. quiet c l (omega arith)))
+  rows_straight row start (suc count) inside quiet = grind (
+    arith,
+    end_later text (row + 1) (start + (row_of text row).idle + 1) count,
+    rows_along row start count inside,
+  )
 
 -- ---- passes
 
 module _ (loop : Pipelined) (is : IsPipelined loop) where
   some_cycles : 0 < interval loop
-  some_cycles = by_count loop.kernel refl
-    where
-      by_count : (count : ℕ) → loop.kernel ≡ count → 0 < interval loop
-      by_count zero e = (let l : 0 < loop.kernel = is.some in absurd (omega arith))
-      by_count (suc count) e =
-          let l : 0 + (row_of loop.text (kernel_row loop)).idle + 1 ≤ straight_end loop.text (kernel_row loop + 1)
-          (0 + (row_of loop.text (kernel_row loop)).idle + 1) count
-          = end_later loop.text (kernel_row loop + 1) (0 + (row_of loop.text (kernel_row loop)).idle + 1) count in
-          let s : interval loop ≡ straight_end loop.text (kernel_row loop) 0 (suc count) = ap
-          (λ n. straight_end loop.text (kernel_row loop) 0 n) e in omega arith
+  some_cycles = grind (arith, end_later)
 
   pub starts_below : (pass other : ℕ) → pass ≤ other → pass_start loop pass ≤ pass_start loop other
-  starts_below pass zero l = let e : pass ≡ 0 = omega arith in let f : pass_start loop pass ≡ pass_start loop 0 = ap
-      (pass_start loop) e in omega arith
+  starts_below pass zero l = grind arith
   starts_below pass (suc other) l =
       ⊎_elim {C = pass_start loop pass ≤ pass_start loop (suc other)}
-      (λ (u : pass < suc other). let k : pass_start loop pass ≤ pass_start loop other = starts_below pass other
-      (omega arith) in omega arith)
-      (λ (u : suc other ≤ pass). let e : pass ≡ suc other = omega arith in let f : pass_start loop pass ≡ pass_start
-      loop (suc other) = ap (pass_start loop) e in omega arith)
+      (λ (u : pass < suc other). grind (arith, starts_below pass other))
+      (λ (u : suc other ≤ pass). let e : pass ≡ suc other = omega arith in grind arith)
       (cases_lt pass (suc other))
 
   -- no pass begins within one
   pub none_within : (pass other : ℕ) → pass_start loop pass < pass_start loop other
       → pass_start loop other < pass_start loop (suc pass) → ⊥
-  none_within pass other l u =
-      ⊎_elim {C = ⊥}
-      (λ (low : other < suc pass). let k : pass_start loop other ≤ pass_start loop pass = starts_below other pass
-      (omega arith) in absurd (omega arith))
-      (λ (high : suc pass ≤ other). let k : pass_start loop (suc pass) ≤ pass_start loop other = starts_below (suc pass)
-      other high in absurd (omega arith))
-      (cases_lt other (suc pass))
+  none_within pass other l u = grind (arith, starts_below other pass, starts_below (suc pass) other)
 
   pub starts_above : (pass other : ℕ) → pass < other → pass_start loop pass < pass_start loop other
-  starts_above pass other l =
-      let k : pass_start loop (suc pass) ≤ pass_start loop other = starts_below (suc pass) other l in
-      let s : 0 < interval loop = some_cycles in omega arith
+  starts_above pass other l = grind (arith, starts_below (suc pass) other l, some_cycles)
 
   -- A branch to the label takes effect at the end of each pass but the last, and none else.
   module _ (passes : ℕ) (some : 0 < passes) (issued : Issued)
@@ -219,36 +147,22 @@ module _ (loop : Pipelined) (is : IsPipelined loop) where
         (At (epilog_row loop)) (pass_start loop passes)
     all_passes pass zero e =
         let last : suc pass ≡ passes = omega arith in
-        let none : turn issued (pass_start loop (suc pass)) ≡ None
-        = else (pass_start loop (suc pass)) (λ other l same.
-        let u : pass_start loop (suc other) < pass_start loop (suc pass) = starts_above (suc other) (suc pass)
-        (omega arith) in
-        let here : pass_start loop (suc other) ≡ pass_start loop (suc pass) = same in absurd (omega arith)) in
-        let there : epilog_row loop - 1 + 1 ≡ epilog_row loop = (let l : 0 < loop.kernel = is.some in omega arith) in
-        let goes : position_after loop.text (epilog_row loop - 1) (turn issued (pass_start loop (suc pass))) ≡ At
-        (epilog_row loop)
-        = ap (λ o. position_after loop.text (epilog_row loop - 1) o) none ∙ ap At there in
-        along_both loop.text issued (At (kernel_row loop)) (At (epilog_row loop)) (pass_start loop pass)
-        (pass_start loop (suc pass))
-        (straight loop.text (kernel_row loop) (pass_start loop pass) loop.kernel) [] (At (epilog_row loop))
-        (pass_start loop passes)
-        (subst (λ p. LeadAlong loop.text issued (At (kernel_row loop)) (pass_start loop pass)
-        (straight loop.text (kernel_row loop) (pass_start loop pass) loop.kernel) p
-        (pass_start loop (suc pass))) goes (one_pass pass))
-        (refl, ap (λ n. pass_start loop n) (sym last))
-    all_passes pass (suc count) e =
-        let more : suc pass < passes = omega arith in
-        let goes : position_after loop.text (epilog_row loop - 1) (turn issued (pass_start loop (suc pass))) ≡ At
-        (kernel_row loop)
-        = ap (λ o. position_after loop.text (epilog_row loop - 1) o) (turns pass more) ∙ ap At is.labelled in
-        along_both loop.text issued (At (kernel_row loop)) (At (kernel_row loop)) (pass_start loop pass)
-        (pass_start loop (suc pass))
-        (straight loop.text (kernel_row loop) (pass_start loop pass) loop.kernel)
-        (passes_from loop (suc pass) (suc count)) (At (epilog_row loop)) (pass_start loop passes)
-        (subst (λ p. LeadAlong loop.text issued (At (kernel_row loop)) (pass_start loop pass)
-        (straight loop.text (kernel_row loop) (pass_start loop pass) loop.kernel) p
-        (pass_start loop (suc pass))) goes (one_pass pass))
-        (all_passes (suc pass) count (omega arith))
+        grind (
+          arith,
+          starts_above,
+          along_both loop.text issued (At (kernel_row loop)) (At (epilog_row loop)) (pass_start loop pass) (pass_start
+              loop (suc pass)) (straight loop.text (kernel_row loop) (pass_start loop pass) loop.kernel),
+          one_pass pass,
+        )
+    all_passes pass (suc count) e = grind (
+      arith,
+      nat_tests,
+      all_passes (suc pass) count,
+      along_both loop.text issued (At (kernel_row loop)) (At (kernel_row loop)) (pass_start loop pass) (pass_start
+          loop (suc pass)) (straight loop.text (kernel_row loop) (pass_start loop pass) loop.kernel) (passes_from loop
+          (suc pass) (suc count)) (At (epilog_row loop)) (pass_start loop passes),
+      one_pass pass,
+    )
 
     -- so it comes to the row behind the epilog
     pub loop_along : LeadAlong loop.text issued (At loop.first) 0 (visits_of loop passes) (At (last_row loop))
@@ -280,8 +194,4 @@ module _ (loop : Pipelined) (is : IsPipelined loop) where
         by_passes : (n : ℕ) → passes ≡ n
             → LeadAlong loop.text issued (At (kernel_row loop)) (pass_start loop 0) (passes_from loop 0 passes)
             (At (epilog_row loop)) (pass_start loop passes)
-        by_passes zero e = absurd (omega arith)
-        by_passes (suc n) e =
-            subst (λ k. LeadAlong loop.text issued (At (kernel_row loop)) (pass_start loop 0) (passes_from loop 0 k)
-            (At (epilog_row loop)) (pass_start loop passes)) (sym e)
-            (all_passes 0 n (omega arith))
+        by_passes n e = grind (arith, all_passes)

@@ -1,63 +1,34 @@
 -- Instances past the end leave memory as it was, and all that they don't write.
-use Rattle.std.proofs.Common.{◌≡◌, ℕ, Bool, true, false, List, [], ◌∷◌, ◌++◌, Option, Some, None, refl, sym, ◌∙◌, ap}
+use Rattle.std.proofs.Common.{◌≡◌, ℕ, Bool, true, false, List, [], ◌∷◌, ◌++◌, refl, sym, ◌∙◌, ap}
 use Rattle.std.proofs.Common.{subst, ◌⊎◌, inl, inr}
 use Rattle.std.specs.Prelude.{Contains}
-use Rattle.std.proofs.lemmas.Bool.{cond-false, cond_both, false≢true}
 use Rattle.std.proofs.lemmas.List.{append_assoc}
-use Rattle.std.proofs.lemmas.Option.{same_Some}
 use Rattle.c62_op.specs.declared.register.Reg.{Reg}
-use Rattle.c62_op.specs.declared.operands.Op.{Op}
-use Rattle.c62_op.specs.declared.operands.Operands.{Operands}
-use Rattle.c62_op.specs.declared.operands.Operands.TheVariants.{Access}
 use Rattle.c62_op.specs.Shape.{is_store}
 use Rattle.c62_op.proofs.Registers.{same_register}
-use Rattle.c62_insn.specs.declared.effect.Access.{Access as MemoryAccess}
 use Rattle.c62_insn.specs.Insn.{op_of, operands_of, register_writes}
-use Rattle.c62_insn.specs.Effect.{access_of}
 use Rattle.c62_read.specs.declared.block.SerialInsn.{SerialInsn}
 use Rattle.c62_serial.specs.State.{Machine, word_in, byte_in}
-use Rattle.c62_serial.specs.Memory.{place_from, placed_from}
 use Rattle.c62_serial.specs.Faults.{after_fault}
-use Rattle.c62_serial.specs.Effect.{Act, no_act, runs, operand_values, act_on, is_fault}
-use Rattle.c62_serial.specs.Serial.{after_access, after_store, after_entry, act_in, serial}
+use Rattle.c62_serial.specs.Effect.{is_fault}
+use Rattle.c62_serial.specs.Serial.{after_access, after_entry, act_in, serial}
 use Rattle.c62_serial.proofs.FaultLemmas.{joined_holds}
 use Rattle.c62_meaning.proofs.Lookup.{In, In_from_Contains, Contains_from_In}
 use Rattle.c62_meaning.proofs.Landings.{act_writes}
-use Rattle.c62_loop.specs.Loop.{Region, rounds, serial_path, Pipelined}
+use Rattle.c62_loop.specs.Loop.{Region, serial_path, Pipelined}
 use Rattle.c62_loop.specs.Past.{is_access, IsSameBut, with_past, PipelinedPastTheEnd}
 use Rattle.c62_loop.proofs.Machines.{machine_after, serial_machine, In-All}
 use Rattle.c62_loop.proofs.Apart.{kept}
 use Rattle.c62_loop.proofs.Counting.{after_both}
 use Rattle.c62_loop.proofs.Pipelined.{pipelined_is_serial}
+use Rattle.std.proofs.lemmas.Bool.Decides.{nat_tests}
+use Rattle.std.proofs.Common.{arith}
 
 -- ---- an instruction that is no store
 
-no_value : (op : Op) (operands : Operands) (reads : List ℕ) (a : MemoryAccess) → is_store op ≡ false
-    → access_of op operands reads ≡ Some a → a.value ≡ None
-no_value op (Access reg base form offset) reads a f e = ap (λ (x : MemoryAccess). x.value) (sym (same_Some _ a e))
-    ∙ cond-false _ _ _ f
-no_value op _ reads a f e = cc
-
 stores_nothing : (entry : SerialInsn) (machine : Machine) → is_store (op_of entry.insn) ≡ false
     → after_access machine.memory (act_in machine entry).access ≡ machine.memory
-stores_nothing entry machine f =
-    cond_both (runs (word_in machine) entry.insn)
-    (act_on entry.insn machine.base (operand_values (word_in machine) entry.insn) (byte_in machine)) no_act
-    (λ (act : Act). after_access machine.memory act.access ≡ machine.memory)
-    (λ _. by_access (access_of (op_of entry.insn) (operands_of entry.insn)
-    (operand_values (word_in machine) entry.insn)) refl) (λ _. refl)
-  where
-    by_access : (o : Option MemoryAccess)
-        → access_of (op_of entry.insn) (operands_of entry.insn) (operand_values (word_in machine) entry.insn) ≡ o
-        → after_access machine.memory (placed_from machine.base
-        (access_of (op_of entry.insn) (operands_of entry.insn) (operand_values (word_in machine) entry.insn))) ≡
-        machine.memory
-    by_access None e = ap (λ o. after_access machine.memory (placed_from machine.base o)) e
-    by_access (Some a) e =
-        ap (λ o. after_access machine.memory (placed_from machine.base o)) e
-        ∙ ap (λ v. after_store machine.memory v (place_from machine.base a.address) a.size)
-        (no_value (op_of entry.insn) (operands_of entry.insn) (operand_values (word_in machine) entry.insn) a f
-        e)
+stores_nothing entry machine f = grind (arith, nat_tests)
 
 fault_kept : (lines : List ℕ) (line other : ℕ) (b : Bool) → Contains lines other
     → Contains (after_fault lines line b) other
@@ -66,24 +37,13 @@ fault_kept lines line other false c = c
 
 fault_new : (lines : List ℕ) (line other : ℕ) (b : Bool) → Contains (after_fault lines line b) other
     → ((other ≡ line) × (b ≡ true)) ⊎ Contains lines other
-fault_new lines line other true c = elim ((joined_holds lines line other).0 c)
-    [ inl e ↦ inl (e, refl) | inr old ↦ inr old ]
+fault_new lines line other true c = grind (arith, joined_holds lines line other)
 fault_new lines line other false c = inr c
 
 -- what faults is an access
 accesses : (entry : SerialInsn) (machine : Machine) → is_fault (act_in machine entry).access ≡ true
     → is_access (operands_of entry.insn) ≡ true
-accesses entry machine =
-    cond_both (runs (word_in machine) entry.insn)
-    (act_on entry.insn machine.base (operand_values (word_in machine) entry.insn) (byte_in machine)) no_act
-    (λ (act : Act). is_fault act.access ≡ true → is_access (operands_of entry.insn) ≡ true)
-    (λ _. of_operands (op_of entry.insn) (operands_of entry.insn) (operand_values (word_in machine) entry.insn))
-    (λ _ h. absurd (false≢true h))
-  where
-    of_operands : (op : Op) (operands : Operands) (reads : List ℕ)
-        → is_fault (placed_from machine.base (access_of op operands reads)) ≡ true → is_access operands ≡ true
-    of_operands op (Access reg base form offset) reads h = refl
-    of_operands op _ reads h = cc
+accesses entry machine = grind (arith, nat_tests)
 
 word_kept : (entry : SerialInsn) (machine : Machine) (reg : Reg)
     → ((delay : ℕ) → Contains (register_writes entry.insn) (reg, delay) → ⊥)
@@ -108,13 +68,7 @@ later_of entry other past c = Contains_from_In other (entry ∷ past) (inr (In_f
 same_but : (past : List SerialInsn) (machine : Machine)
     → ((entry : SerialInsn) → In entry past → is_store (op_of entry.insn) ≡ false)
     → IsSameBut past machine (machine_after past machine)
-same_but [] machine none = record {
-  base = refl;
-  memory = refl;
-  words = λ reg h. refl;
-  kept = λ line c. c;
-  faults = λ line c. inl c;
-}
+same_but [] machine none = grind (arith, kept)
 same_but (entry ∷ past) machine none =
     let rest : IsSameBut past (after_entry entry machine) (machine_after past (after_entry entry machine)) = same_but
     past (after_entry entry machine) (λ e h. none e (inr h)) in
@@ -138,9 +92,7 @@ same_but (entry ∷ past) machine none =
 
 longer_path : (region : Region) (past : List SerialInsn) (trips : ℕ)
     → serial_path (with_past region past) trips ≡ serial_path region trips ++ past
-longer_path region past trips =
-    ap (λ xs. region.before ++ xs) (sym (append_assoc (rounds region.body trips) region.behind past))
-    ∙ sym (append_assoc region.before (rounds region.body trips ++ region.behind) past)
+longer_path region past trips = grind (arith, nat_tests, append_assoc)
 
 pub pipelined_past_the_end : (region : Region) (past : List SerialInsn) (loop : Pipelined) (trips passes : ℕ)
     → PipelinedPastTheEnd region past loop trips passes

@@ -1,11 +1,11 @@
 -- Instances of iterations past the last come later with each pass more.
 use Rattle.std.proofs.Common.{◌≡◌, ℕ, zero, suc, ◌+◌, ◌≤◌, List, [], ◌∷◌, ◌++◌, map, length, refl, sym, ◌∙◌, ap}
-use Rattle.std.proofs.Common.{subst, inl, inr, arith}
+use Rattle.std.proofs.Common.{arith}
 use Rattle.std.proofs.lemmas.Option.{none-some, same_Some}
 use Rattle.c62_packet.specs.declared.placed.Placed.{Placed}
 use Rattle.c62_meaning.specs.Cut.{moved}
 use Rattle.c62_meaning.proofs.Lookup.{In}
-use Rattle.c62_loop.specs.Stage.{Schedule, cycles_in, instance_of}
+use Rattle.c62_loop.specs.Stage.{Schedule, cycles_in}
 use Rattle.c62_loop.specs.Collapsed.{Beyond, past_placed}
 use Rattle.c62_loop.proofs.Instances.{instance_comes}
 use Rattle.c62_loop.proofs.LaterPlaces.{ComeLater}
@@ -19,10 +19,8 @@ AllLater interval (p ∷ ps) (q ∷ qs) = (q.cycle ≡ p.cycle + interval) × Al
 
 both_later : (interval : ℕ) (ps qs xs ys : List Placed) → AllLater interval ps qs → AllLater interval xs ys
     → AllLater interval (ps ++ xs) (qs ++ ys)
-both_later interval [] [] xs ys h k = k
-both_later interval [] (q ∷ qs) xs ys h k = absurd h
-both_later interval (p ∷ ps) [] xs ys h k = absurd h
-both_later interval (p ∷ ps) (q ∷ qs) xs ys h k = (h.0, both_later interval ps qs xs ys h.1 k)
+both_later interval [] qs xs ys h k = grind arith
+both_later interval (p ∷ ps) qs xs ys h k = grind (arith, both_later interval ps)
 
 pub come_later : (interval : ℕ) (ps qs : List Placed) → AllLater interval ps qs → ComeLater interval ps qs
 come_later interval ps [] h a q at = absurd (none-some q at)
@@ -41,14 +39,11 @@ past_later : (interval passes : ℕ) (beyond : List Beyond)
     → ((one : Beyond) → In one beyond → length one.stage.early ≤ passes)
     → AllLater interval (past_placed interval beyond passes) (past_placed interval beyond (suc passes))
 past_later interval passes [] early = tt
-past_later interval passes (one ∷ beyond) early =
-    let few : length one.stage.early ≤ passes = early one (inl refl) in
-    let e : suc (passes + one.number) ≡ suc passes + one.number = omega arith in (
-      subst (λ n. (instance_of interval (suc passes) n one.stage).cycle ≡
-          (instance_of interval passes (passes + one.number) one.stage).cycle + interval) e
-          (instance_comes interval one.stage passes (passes + one.number) (omega arith)),
-      past_later interval passes beyond (λ other h. early other (inr h)),
-    )
+past_later interval passes (one ∷ beyond) early = grind (
+  arith,
+  past_later interval passes beyond,
+  instance_comes interval one.stage passes (passes + one.number),
+)
 
 -- what stands behind the loop, and those of iterations past the last
 pub behind_later : (schedule : Schedule) (beyond : List Beyond) (passes : ℕ)

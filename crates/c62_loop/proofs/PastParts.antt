@@ -1,8 +1,8 @@
 -- Work of iterations past the last is work, and instances of it stand for it.
-use Rattle.std.proofs.Common.{◌≡◌, ℕ, zero, suc, ◌+◌, Bool, true, false, not, List, [], ◌∷◌, Some, refl, sym, ◌∙◌, ap}
-use Rattle.std.proofs.Common.{subst, inl, inr, ⊎_elim}
+use Rattle.std.proofs.Common.{◌≡◌, ℕ, zero, suc, ◌+◌, Bool, true, false, List, [], ◌∷◌, Some, refl, sym, ◌∙◌}
+use Rattle.std.proofs.Common.{inl, inr, ⊎_elim}
 use Rattle.std.specs.Prelude.{slice_get, filter}
-use Rattle.std.proofs.lemmas.Bool.{cases_Bool, cond-true, or_left, false≢true}
+use Rattle.std.proofs.lemmas.Bool.{cases_Bool, or_left, false≢true}
 use Rattle.std.proofs.lemmas.Option.{none-some, same_Some}
 use Rattle.c62_op.specs.declared.register.Reg.{Reg}
 use Rattle.c62_read.specs.declared.block.SerialInsn.{SerialInsn}
@@ -14,14 +14,14 @@ use Rattle.c62_loop.specs.Collapsed.{Beyond, IsHeld, past_work, past_placed}
 use Rattle.c62_loop.proofs.Lists.{at_place, in_mapped}
 use Rattle.c62_loop.proofs.Apart.{no_more}
 use Rattle.c62_loop.proofs.Standing.{IsOf, AreOf, instance_stands}
+use Rattle.std.proofs.Common.{arith}
 
 -- the stage at a place is of the instruction there
 of_at : (entries : List SerialInsn) (stages : List Stage) → AreOf entries stages → (place : ℕ) (entry : SerialInsn)
     (stage : Stage) → slice_get entries place ≡ Some entry → slice_get stages place ≡ Some stage → IsOf entry stage
 of_at [] stages h place entry stage at_e at_s = absurd (none-some entry at_e)
 of_at (e ∷ entries) [] h place entry stage at_e at_s = absurd (none-some stage at_s)
-of_at (e ∷ entries) (s ∷ stages) h zero entry stage at_e at_s =
-    subst (λ x. IsOf x stage) (same_Some e entry at_e) (subst (λ x. IsOf e x) (same_Some s stage at_s) h.0)
+of_at (e ∷ entries) (s ∷ stages) h zero entry stage at_e at_s = grind (arith, same_Some)
 of_at (e ∷ entries) (s ∷ stages) h (suc place) entry stage at_e at_s = of_at entries stages h.1 place entry stage at_e
     at_s
 
@@ -39,22 +39,16 @@ module _ (work : List SerialInsn) (stages : List Stage) where
 
   pub past_inside : (beyond : List Beyond) → ((one : Beyond) → In one beyond → IsHeld work stages one)
       → (entry : SerialInsn) → In entry (past_work beyond) → In entry work
-  past_inside beyond each entry h =
-      let r = in_mapped (λ (one : Beyond). one.entry) beyond entry h in
-      let k : IsHeld work stages r.0 = each r.0 r.1 in
-      subst (λ e. In e work) (sym r.2) (at_place work k.place r.0.entry k.entry_is)
+  past_inside beyond each entry h = grind (arith, in_mapped, at_place work)
 
 filter_all : {X : Type 0} (f : X → Bool) (xs : List X) → ((x : X) → In x xs → f x ≡ true) → filter f xs ≡ xs
 filter_all f [] h = refl
-filter_all f (x ∷ xs) h =
-    cond-true (f x) (x ∷ filter f xs) (filter f xs) (h x (inl refl))
-    ∙ ap (λ ys. x ∷ ys) (filter_all f xs (λ y k. h y (inr k)))
+filter_all f (x ∷ xs) h = grind (arith, filter_all f xs)
 
 -- what touches no counter is all work
 pub all_work : (counter : Reg) (xs : List SerialInsn) → ((x : SerialInsn) → In x xs → touches counter x ≡ false)
     → work_of counter xs ≡ xs
-all_work counter xs none = filter_all (λ (entry : SerialInsn). not (touches counter entry)) xs
-    (λ x h. ap not (none x h))
+all_work counter xs none = grind (arith, filter_all)
 
 pub no_steps : (counter : Reg) (xs : List SerialInsn) → ((x : SerialInsn) → In x xs → touches counter x ≡ false)
     → steps_in counter xs ≡ 0

@@ -79,8 +79,7 @@ module _ (region : Region) (loop : Pipelined) (trips passes : ℕ) (counted : Is
   is_along = record {
     issuable = is.issuable;
     one_branch = λ visit c.
-        (let r = rows_within loop passes visit (In_from_Contains visit (visits_of loop passes) c) in is.one_branch
-        visit.row r.0 r.1);
+        (let r = rows_within loop passes visit (In_from_Contains visit (visits_of loop passes) c) in grind arith);
     instances = m.instances;
     drained = m.drained;
     steers = steers region loop trips passes counted is opening m sound begins small;

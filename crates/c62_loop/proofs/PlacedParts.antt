@@ -1,13 +1,14 @@
 -- Parts of a path whose instances are placed.
-use Rattle.std.proofs.Common.{◌≡◌, ℕ, zero, suc, ◌+◌, ◌<◌, ◌≤◌, cond, ltb, List, ◌++◌, length, sym, ◌∙◌, ap, ⊎_elim}
+use Rattle.std.proofs.Common.{◌≡◌, ℕ, zero, suc, ◌+◌, ◌<◌, ◌≤◌, cond, ltb, List, ◌++◌, length, ◌∙◌, ap}
 use Rattle.std.proofs.Common.{arith}
 use Rattle.std.specs.Prelude.{slice_get}
-use Rattle.std.proofs.lemmas.Bool.{cases_lt, cond-true, cond-false, lt-ltb, le-ltb}
+use Rattle.std.proofs.lemmas.Bool.{cond-true, cond-false, lt-ltb, le-ltb}
 use Rattle.std.proofs.lemmas.List.{length-map}
 use Rattle.c62_packet.specs.declared.placed.Placed.{Placed}
 use Rattle.c62_loop.specs.Stage.{Schedule, instance_of, round_of, rounds_from, Straights, Places}
 use Rattle.c62_loop.proofs.Lists.{get_front, get_back}
 use Rattle.c62_loop.proofs.Parts.{rows, begin, part, part_body}
+use Rattle.std.proofs.lemmas.Bool.Decides.{nat_tests}
 
 -- the instances of so many iterations, and these behind them
 abbrev pub placed_with : Schedule → ℕ → ℕ → List Placed → List Placed
@@ -34,21 +35,14 @@ module _ (straights : Straights) (schedule : Schedule) (most : ℕ) (places : Pl
       → slice_get (rounds_from schedule passes from trips behind) (rows (length straights.body) t + a) ≡ slice_get
       (round_of schedule passes (from + t)) a
   placed_rounds passes from zero t a behind l u = absurd (omega arith)
-  placed_rounds passes from (suc trips) zero a behind l u =
-      let n : length (round_of schedule passes from) ≡ length straights.body = round_length passes from in
-      let e : from ≡ from + 0 = omega arith in
-      let z : 0 + a ≡ a = omega arith in
-      ap (λ n. slice_get (rounds_from schedule passes from (suc trips) behind) n) z
-      ∙ get_front (round_of schedule passes from) (rounds_from schedule passes (suc from) trips behind) a (omega arith)
-      ∙ ap (λ k. slice_get (round_of schedule passes k) a) e
-  placed_rounds passes from (suc trips) (suc t) a behind l u =
-      let n : length (round_of schedule passes from) ≡ length straights.body = round_length passes from in
-      let e : suc from + t ≡ from + suc t = omega arith in
-      get_back (round_of schedule passes from) (rounds_from schedule passes (suc from) trips behind)
-      (length straights.body + rows (length straights.body) t + a) (rows (length straights.body) t + a)
-      (omega arith)
-      ∙ placed_rounds passes (suc from) trips t a behind (omega arith) u
-      ∙ ap (λ k. slice_get (round_of schedule passes k) a) e
+  placed_rounds passes from (suc trips) zero a behind l u = grind (arith, nat_tests, round_length, get_front)
+  placed_rounds passes from (suc trips) (suc t) a behind l u = grind (
+    arith,
+    nat_tests,
+    placed_rounds passes (suc from) trips t a behind,
+    round_length,
+    get_back,
+  )
 
   placed_end : (passes from trips a : ℕ) (behind : List Placed)
       → slice_get (rounds_from schedule passes from trips behind) (rows (length straights.body) trips + a) ≡
@@ -65,35 +59,17 @@ module _ (straights : Straights) (schedule : Schedule) (most : ℕ) (places : Pl
       (part straights trips s)
       → slice_get (placed_with schedule trips passes behind) (begin straights s + a) ≡ slice_get
       (placed_part schedule trips passes behind s) a
-  placed_at trips passes behind zero a l u =
-      let n : length schedule.before ≡ length straights.before = places.before in
-      let e : 0 + a ≡ a = omega arith in
-      ap (λ n. slice_get (placed_with schedule trips passes behind) n) e
-      ∙ get_front schedule.before
-      (rounds_from schedule passes 0 trips behind) a
-      (omega arith)
-  placed_at trips passes behind (suc t) a l u =
-      let n : length schedule.before ≡ length straights.before = places.before in
-      get_back schedule.before
-      (rounds_from schedule passes 0 trips behind)
-      (length straights.before + rows (length straights.body) t + a) (rows (length straights.body) t + a)
-      (omega arith)
-      ∙ ⊎_elim {C = slice_get
-      (rounds_from schedule passes 0 trips behind)
-      (rows (length straights.body) t + a) ≡ slice_get (placed_part schedule trips passes behind (suc t)) a}
-      (λ (k : t < trips).
-      let n : length (part straights trips (suc t)) ≡ length straights.body =
-      ap length (part_body straights trips t k) in
-      let z : 0 + t ≡ t = omega arith in
-      placed_rounds passes 0 trips t a behind k
-      (omega arith)
-      ∙ ap (λ n. slice_get (round_of schedule passes n) a) z
-      ∙ ap (λ xs. slice_get xs a) (sym (placed_body schedule trips passes behind t k)))
-      (λ (k : trips ≤ t).
-      let e : t ≡ trips = omega arith in
-      ap (λ n. slice_get (rounds_from schedule passes 0 trips
-      behind)
-      (rows (length straights.body) n + a)) e
-      ∙ placed_end passes 0 trips a behind
-      ∙ ap (λ xs. slice_get xs a) (sym (placed_behind schedule trips passes behind t k)))
-      (cases_lt t trips)
+  placed_at trips passes behind zero a l u = grind (
+    arith,
+    get_front schedule.before (rounds_from schedule passes 0 trips behind) a,
+  )
+  placed_at trips passes behind (suc t) a l u = grind (
+    arith,
+    get_back schedule.before (rounds_from schedule passes 0 trips behind) (length straights.before + rows (length
+        straights.body) t + a) (rows (length straights.body) t + a),
+    part_body straights trips t,
+    placed_rounds passes 0 trips t a behind,
+    placed_body schedule trips passes behind t,
+    placed_end passes 0 trips a behind,
+    placed_behind schedule trips passes behind t,
+  )

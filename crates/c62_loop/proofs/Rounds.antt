@@ -1,20 +1,17 @@
 -- A counted loop goes round as often as its counter says.
-use Rattle.std.proofs.Common.{◌≡◌, ℕ, zero, suc, ◌+◌, ◌-◌, ◌^◌, ◌<◌, Bool, true, false, List, [], ◌∷◌, ◌++◌, length}
-use Rattle.std.proofs.Common.{Option, Some, None, refl, sym, ◌∙◌, ap, subst, inl, inr, arith}
-use Rattle.std.specs.Prelude.{◌==◌, fold}
-use Rattle.std.proofs.lemmas.Bool.{cond-true, cond-false, eq-eqb, ne_eqb, false≢true}
+use Rattle.std.proofs.Common.{◌≡◌, ℕ, zero, suc, ◌+◌, ◌-◌, ◌^◌, ◌<◌, false, List, [], ◌∷◌, ◌++◌, length}
+use Rattle.std.proofs.Common.{refl, ◌∙◌, ap, arith}
+use Rattle.std.specs.Prelude.{fold}
 use Rattle.std.proofs.lemmas.List.{get_or-set_same}
 use Rattle.c62_op.specs.declared.register.Reg.{Reg}
 use Rattle.c62_op.specs.Shape.{is_branch}
 use Rattle.c62_insn.specs.Insn.{op_of}
-use Rattle.c62_insn.specs.declared.effect.Target.{Target}
 use Rattle.c62_read.specs.declared.block.SerialInsn.{SerialInsn}
 use Rattle.c62_read.specs.Block.{Serial}
 use Rattle.c62_serial.specs.declared.serial.Exit.TheVariants.{Next, Block}
 use Rattle.c62_serial.specs.State.{Machine, IsSound, index_of, word_in, byte_in}
-use Rattle.c62_serial.specs.Effect.{Act}
-use Rattle.c62_serial.specs.Serial.{Ran, act_in, after_act, after_entry, after_insn, exit_after, serial}
-use Rattle.c62_serial.specs.Chain.{At, Leads, position_at, position_after, serial_blocks}
+use Rattle.c62_serial.specs.Serial.{Ran, act_in, after_entry, after_insn, exit_after, serial}
+use Rattle.c62_serial.specs.Chain.{At, Leads, position_at, serial_blocks}
 use Rattle.c62_serial.proofs.BranchLemmas.{goes_branch}
 use Rattle.c62_serial.proofs.ChainLemmas.{at_block}
 use Rattle.c62_serial.proofs.RegisterLemmas.{index_within}
@@ -25,6 +22,7 @@ use Rattle.c62_loop.specs.Rounds.{IsLoopBlock, repeated, GoesRound}
 use Rattle.c62_loop.proofs.Machines.{machine_after, serial_machine, sound_after, In-All}
 use Rattle.c62_loop.proofs.Apart.{apart}
 use Rattle.c62_loop.proofs.Counting.{after_both, counts_one}
+use Rattle.std.proofs.lemmas.Bool.Decides.{nat_tests}
 
 fold_both : (xs ys : List SerialInsn) (ran : Ran)
     → fold after_insn ran (xs ++ ys) ≡ fold after_insn (fold after_insn ran xs) ys
@@ -36,15 +34,12 @@ falls_through : (xs : List SerialInsn) (ran : Ran)
     → ((entry : SerialInsn) → In entry xs → is_branch (op_of entry.insn) ≡ false)
     → (fold after_insn ran xs).exit ≡ ran.exit
 falls_through [] ran none = refl
-falls_through (x ∷ xs) ran none =
-    falls_through xs (after_insn ran x) (λ e h. none e (inr h))
-    ∙ ap (λ o. exit_after ran.exit o) (by_target (act_in ran.machine x).target refl)
-  where
-    by_target : (o : Option Target) → (act_in ran.machine x).target ≡ o → (act_in ran.machine x).target ≡ None
-    by_target None e = e
-    by_target (Some target) e =
-        absurd (false≢true (sym (none x (inl refl))
-        ∙ goes_branch x.insn ran.machine.base (word_in ran.machine) (byte_in ran.machine) target e))
+falls_through (x ∷ xs) ran none = grind (
+  arith,
+  nat_tests,
+  falls_through xs (after_insn ran x),
+  goes_branch x.insn ran.machine.base (word_in ran.machine) (byte_in ran.machine),
+)
 
 module _ (program : List Serial) (number : ℕ) (counter : Reg) (body : List SerialInsn) (test : SerialInsn)
     (is : IsLoopBlock program number counter body test) where
@@ -59,19 +54,10 @@ module _ (program : List Serial) (number : ℕ) (counter : Reg) (body : List Ser
 
   -- the branch leaves the machine as it was
   stays : (machine : Machine) → after_entry test machine ≡ machine
-  stays machine = either (word_in machine counter == 0) refl
-    where
-      either : (b : Bool) → (word_in machine counter == 0) ≡ b → after_entry test machine ≡ machine
-      either true z = ap (λ (act : Act). after_act test.line act machine)
-          (is.tests machine.base (word_in machine) (byte_in machine)
-          ∙ cond-true _ _ _ z)
-      either false z = ap (λ (act : Act). after_act test.line act machine)
-          (is.tests machine.base (word_in machine) (byte_in machine)
-          ∙ cond-false _ _ _ z)
+  stays machine = grind (arith, nat_tests)
 
   round_leaves : (opening : Machine) → (serial block opening).machine ≡ machine_after body opening
-  round_leaves opening = serial_machine block opening ∙ after_both body (test ∷ []) opening
-      ∙ stays (machine_after body opening)
+  round_leaves opening = grind (arith, serial_machine, after_both, stays)
 
   module _ (trips : ℕ) (opening : Machine) (sound : IsSound opening) (begins : word_in opening counter ≡ suc trips)
       (small : suc trips < 2 ^ 32) where
@@ -92,74 +78,38 @@ module _ (program : List Serial) (number : ℕ) (counter : Reg) (body : List Ser
 
     -- the exit is the branch's
     exit_is : (serial block opening).exit ≡ exit_after Next (act_in (serial body opening).machine test).target
-    exit_is =
-        ap (λ (r : Ran). r.exit) (fold_both body (test ∷ []) (record { machine = opening; exit = Next }))
-        ∙ ap (λ exit. exit_after exit (act_in (serial body opening).machine test).target)
-        (falls_through body (record { machine = opening; exit = Next }) no_branch)
+    exit_is = grind (arith, fold_both body (test ∷ []), falls_through body, no_branch)
 
     finds : word_in (serial body opening).machine counter ≡ trips
     finds = ap (λ (m : Machine). word_in m counter) (serial_machine body opening) ∙ one_less
 
     goes_on : trips ≡ 0 → (serial block opening).exit ≡ Next
-    goes_on z =
-        exit_is ∙ ap (λ (act : Act). exit_after Next act.target)
-        (is.tests (serial body opening).machine.base (word_in (serial body opening).machine)
-        (byte_in (serial body opening).machine)
-        ∙ cond-true _ _ _ (eq-eqb _ 0 (finds ∙ z)))
+    goes_on z = grind (arith, exit_is, finds)
 
     goes_back : (trips ≡ 0 → ⊥) → (serial block opening).exit ≡ Block number
-    goes_back ne =
-        exit_is ∙ ap (λ (act : Act). exit_after Next act.target)
-        (is.tests (serial body opening).machine.base (word_in (serial body opening).machine)
-        (byte_in (serial body opening).machine)
-        ∙ cond-false _ _ _ (ne_eqb _ 0 (λ z. ne (sym finds ∙ z))))
+    goes_back ne = grind (arith, nat_tests, exit_is, finds)
 
   rounds_leave : (trips : ℕ) (opening : Machine)
       → (serial (rounds block (suc trips)) opening).machine ≡
       (serial (rounds block trips) (serial block opening).machine).machine
-  rounds_leave trips opening =
-      serial_machine (rounds block (suc trips)) opening
-      ∙ after_both block (rounds block trips) opening
-      ∙ ap (λ (m : Machine). machine_after (rounds block trips) m) (sym (serial_machine block opening))
-      ∙ sym (serial_machine (rounds block trips) (serial block opening).machine)
+  rounds_leave trips opening = grind (arith, serial_machine, after_both)
 
   goes : (trips : ℕ) (opening : Machine) → IsSound opening → word_in opening counter ≡ suc trips → suc trips < 2 ^ 32
       → Leads (length program) (serial_blocks program) opening (At number) (repeated number (suc trips))
       (serial (rounds block (suc trips)) opening).machine (position_at (length program) (number + 1))
   unfolding Leads
-  goes zero opening sound begins small = (
-    refl,
-    serial block opening,
-    ap (λ insns. serial insns opening) (sym is.block),
-    (
-      rounds_leave 0 opening,
-      ap (λ exit. position_after (length program) number exit)
-          (sym (goes_on 0 opening sound begins small refl)),
-    ),
+  goes zero opening sound begins small = grind (arith, rounds_leave 0 opening, goes_on 0 opening sound begins small)
+  goes (suc trips) opening sound begins small = grind (
+    arith,
+    goes trips,
+    round_leaves opening,
+    sound_after body opening sound,
+    one_less (suc trips) opening sound begins small,
+    at_block (length program) number is.there,
+    goes_back (suc trips) opening sound begins small,
+    rounds_leave (suc trips) opening,
   )
-  goes (suc trips) opening sound begins small =
-      let next : IsSound (serial block opening).machine = subst (λ (m : Machine). IsSound m)
-      (sym (round_leaves opening)) (sound_after body opening sound) in
-      let holds : word_in (serial block opening).machine counter ≡ suc trips
-      = ap (λ (m : Machine). word_in m counter) (round_leaves opening)
-      ∙ one_less (suc trips) opening sound begins small in
-      let back : At number ≡ position_after (length program) number (serial block opening).exit
-      = sym (at_block (length program) number is.there)
-      ∙ ap (λ exit. position_after (length program) number exit)
-      (sym (goes_back (suc trips) opening sound begins small (λ z. omega arith))) in (
-        refl,
-        serial block opening,
-        ap (λ insns. serial insns opening) (sym is.block),
-        subst (λ p. Leads (length program) (serial_blocks program) (serial block opening).machine p
-            (repeated number (suc trips)) (serial (rounds block (suc (suc trips))) opening).machine
-            (position_at (length program) (number + 1))) back
-            (subst (λ (m : Machine). Leads (length program) (serial_blocks program) (serial block opening).machine
-            (At number) (repeated number (suc trips)) m (position_at (length program) (number + 1)))
-            (sym (rounds_leave (suc trips) opening))
-            (goes trips (serial block opening).machine next holds (omega arith))),
-      )
 
 pub goes_round : (program : List Serial) (number : ℕ) (counter : Reg) (body : List SerialInsn) (test : SerialInsn)
     → GoesRound program number counter body test
-goes_round program number counter body test is trips opening sound begins small = goes program number counter body test
-    is trips opening sound begins small
+goes_round program number counter body test is trips opening sound begins small = grind (arith, goes)

@@ -66,14 +66,7 @@ module _ (promised : Insn → Insn → Bool) (region : Region) (loop : Pipelined
       ⊎ ((k : ℕ) × (i ≡ length before + (length control + k)) × (slice_get rest k ≡ Some p)))
 
   lies : (i : ℕ) (p : Placed) → slice_get (before ++ (control ++ rest)) i ≡ Some p → Lies i p
-  lies i p at = elim (get_cases before (control ++ rest) i p at) [
-    | inl here ↦ inl here
-    | inr n ↦ (let e : i ≡ length before + n.0 = n.1 in
-        elim (get_cases control rest n.0 p n.2) [
-          | inl here ↦ inr (inl (n.0, n.1, here))
-          | inr r ↦ (let f : n.0 ≡ length control + r.0 = r.1 in inr (inr (r.0, omega arith, r.2)))
-        ])
-  ]
+  lies i p at = grind (arith, get_cases)
 
   abbrev insns : List Insn
   insns = insns_in path
@@ -185,9 +178,6 @@ module _ (promised : Insn → Insn → Bool) (region : Region) (loop : Pipelined
       → slice_get (before ++ (control ++ rest)) j ≡ Some q → Keeps i j p q bound
   instances_keep i j p q bound at_p at_q met = by_part (lies i p at_p) (lies j q at_q)
     where
-      lt : i < j
-      lt = met.bounds.bounds.before
-
       -- where one above the label, or of the work, stands without the control
       first : slice_get before i ≡ Some p → Alone before control i i × (slice_get (before ++ rest) i ≡ Some p)
       first here = (inl (refl, slice_get_within before i p here), front_at before rest i p here)
@@ -205,8 +195,7 @@ module _ (promised : Insn → Insn → Bool) (region : Region) (loop : Pipelined
       by_part (inl here) (inr (inl (k, e, there))) = behind_before i j k p q bound here e there met
       by_part (inl here) (inr (inr (k, e, there))) =
           let a = first here in
-          let b = later j k q e there in
-          keeps_alone i j i (length before + k) p q bound a.0 b.0 a.1 b.1 met
+          grind (arith, later j k q e there, keeps_alone i j i)
       by_part (inr (inl (k, e, here))) (inl there) =
           let l : j < length before = slice_get_within before j q there in absurd (omega arith)
       by_part (inr (inl (k, e, here))) (inr (inl (n, f, there))) = both_control i j k n p q bound e here f there met
@@ -217,5 +206,4 @@ module _ (promised : Insn → Insn → Bool) (region : Region) (loop : Pipelined
           let l : n < length control = slice_get_within control n q there in absurd (omega arith)
       by_part (inr (inr (k, e, here))) (inr (inr (n, f, there))) =
           let a = later i k p e here in
-          let b = later j n q f there in
-          keeps_alone i j (length before + k) (length before + n) p q bound a.0 b.0 a.1 b.1 met
+          grind (arith, later j n q f there, keeps_alone i j)

@@ -2,7 +2,7 @@
 use Rattle.std.proofs.Common.{true, ◌≡◌, ℕ, zero, suc, ◌+◌, ◌-◌, ◌<◌, ◌≤◌, false, List}
 use Rattle.std.proofs.Common.{◌++◌, map, length, take, Some, refl, sym, ◌∙◌, ap, subst, ◌⊎◌, inl, inr, ⊎_elim}
 use Rattle.std.proofs.Common.{arith}
-use Rattle.std.specs.Prelude.{All, slice_get, option_map}
+use Rattle.std.specs.Prelude.{All, slice_get}
 use Rattle.std.proofs.lemmas.Bool.{cases_lt}
 use Rattle.std.proofs.lemmas.Option.{same_Some, slice_get-map}
 use Rattle.c62_op.specs.declared.register.Reg.{Reg}
@@ -10,8 +10,8 @@ use Rattle.c62_read.specs.declared.block.SerialInsn.{SerialInsn}
 use Rattle.c62_packet.specs.declared.placed.Placed.{Placed}
 use Rattle.c62_meaning.specs.Cut.{moved}
 use Rattle.c62_meaning.proofs.Lookup.{In, Contains_from_In, In-append_cases}
-use Rattle.c62_loop.specs.Counter.{size_of, touches, steps_on, steps_in, StopsAtZero, IsCounted, CountsFrom}
-use Rattle.c62_loop.specs.Loop.{Pipelined, prolog_cycles, interval, pass_start}
+use Rattle.c62_loop.specs.Counter.{touches, steps_on, steps_in, IsCounted, CountsFrom}
+use Rattle.c62_loop.specs.Loop.{Pipelined, interval}
 use Rattle.c62_loop.specs.Loop.{EndsPass}
 use Rattle.c62_loop.specs.Stage.{cycles_in}
 use Rattle.c62_loop.specs.Whole.{Control, entry_of, steps_of, IsControl, IsSteering}
@@ -20,15 +20,13 @@ use Rattle.c62_loop.proofs.Lists.{from_mapped, in_mapped}
 use Rattle.c62_loop.proofs.PassControl.{control_from, control_of, in_pass, pass_in, steps_joined, steps_passes}
 use Rattle.c62_loop.proofs.PassControl.{pass_of}
 use Rattle.c62_loop.proofs.LaterRows.{pass_at}
+use Rattle.std.proofs.lemmas.Bool.Decides.{nat_tests}
 
 cycles_sum : (interval k n : ℕ) → cycles_in interval (k + n) ≡ cycles_in interval k + cycles_in interval n
-cycles_sum interval zero n = let e : 0 + n ≡ n = omega arith in let f : cycles_in interval (0 + n) ≡ cycles_in interval
-    n = ap (cycles_in interval) e in omega arith
+cycles_sum interval zero n = grind arith
 cycles_sum interval (suc k) n =
     let e : suc k + n ≡ suc (k + n) = omega arith in
-    let f : cycles_in interval (suc k + n) ≡ cycles_in interval (suc (k + n)) = ap (cycles_in interval) e in
-    let g : cycles_in interval (k + n) ≡ cycles_in interval k + cycles_in interval n = cycles_sum interval k n in omega
-    arith
+    grind (arith, cycles_sum interval k n)
 
 module _ (counter : Reg) (loop : Pipelined) (most passes : ℕ) (control : Control)
     (steering : IsSteering counter loop most control) (some : 0 < passes) where
@@ -44,15 +42,7 @@ module _ (counter : Reg) (loop : Pipelined) (most passes : ℕ) (control : Contr
   -- ---- each of the control
 
   control_moved : (k : ℕ) (p : Placed) → IsControl counter loop.label p → IsControl counter loop.label (moved k p)
-  control_moved k p h = record {
-    touch = h.touch;
-    counted = h.counted;
-    writes = h.writes;
-    reads = h.reads;
-    no_load = h.no_load;
-    no_store =
-        h.no_store;
-  }
+  control_moved k p h = grind arith
 
   pub each_control : (p : Placed) → In p all → IsControl counter loop.label p
   each_control p h = elim (In-append_cases p control.early (control_from control.kernel (interval loop) 0 passes) h) [
@@ -65,21 +55,18 @@ module _ (counter : Reg) (loop : Pipelined) (most passes : ℕ) (control : Contr
     where
       in_list : (ps : List Placed) → All (λ p. IsControl counter loop.label p) ps → (p : Placed) → In p ps
           → IsControl counter loop.label p
-      in_list ps all p h = let c = Contains_from_In p ps h in subst (λ z. IsControl counter loop.label z) c.2
-          (all c.0 p c.1)
+      in_list ps all p h = let c = Contains_from_In p ps h in grind arith
 
   pub in_entries : (entry : SerialInsn) → In entry entries → (p : Placed) × In p all × (entry ≡ entry_of p)
   in_entries entry h = in_mapped entry_of all entry h
 
   pub all_touch : All (λ entry. touches counter entry ≡ true) entries
   all_touch = all_in (λ entry. touches counter entry ≡ true) entries
-      (λ entry h. let r = in_entries entry h in subst (λ z. touches counter z ≡ true) (sym r.2)
-      (each_control r.0 r.1).touch)
+      (λ entry h. grind (arith, in_entries entry h, each_control))
 
   pub all_counted : All (IsCounted counter loop.label) entries
   all_counted = all_in (IsCounted counter loop.label) entries
-      (λ entry h. let r = in_entries entry h in subst (λ z. IsCounted counter loop.label z) (sym r.2)
-      (each_control r.0 r.1).counted)
+      (λ entry h. let r = in_entries entry h in grind (arith, each_control r.0 r.1))
 
   -- ---- where one stands, and the steps before it
 
@@ -136,48 +123,20 @@ module _ (counter : Reg) (loop : Pipelined) (most passes : ℕ) (control : Contr
   pub control_counts : CountsFrom counter trips entries
   control_counts i entry at t =
       let r = from_mapped entry_of all i entry at in
-      let same : steps_in counter (take i entries) ≡ steps_of counter (take i all) = steps_taken i in
-      let step : steps_on counter (entry_of r.0) ≡ true = subst (λ z. steps_on counter z ≡ true) r.2 t in
-      elim (stands i r.0 r.1) [
-        | inl n ↦ elim (steering.early_counts i r.0 n.0 step) [
-          | inl l ↦ (let u : steps_of counter (take i control.early) + size_of (entry_of r.0) ≤ most + 1 = l in
-              let z : size_of entry ≡ size_of (entry_of r.0) = ap size_of r.2 in
-              let s : steps_of counter (take i all) ≡ steps_of counter (take i control.early) = n.1 in inl
-              (omega arith))
-          | inr z ↦ inr (subst (λ e. StopsAtZero counter e) (sym r.2) z)
-        ]
-        | inr n ↦ (let there : entry_of r.0 ≡ entry_of n.of_kernel = ap entry_of n.is in
-            elim (steering.kernel_counts n.number n.of_kernel n.at_number
-            (subst (λ z. steps_on counter z ≡ true) there step)) [
-              | inl l ↦ (let u : steps_of counter control.early + steps_of counter (take n.number control.kernel) +
-                  size_of (entry_of n.of_kernel) ≤ most + 1 = l in
-                  let z : size_of entry ≡ size_of (entry_of n.of_kernel) = ap size_of (r.2 ∙ there) in
-                  let s : steps_of counter (take i all) ≡ steps_of counter control.early +
-                  (n.pass + steps_of counter (take n.number control.kernel)) = n.steps in
-                  let w : n.pass < passes = n.within in inl (omega arith))
-              | inr z ↦ inr (subst (λ e. StopsAtZero counter e) (sym (r.2 ∙ there)) z)
-            ])
-      ]
+      grind (arith, steps_taken i, stands i r.0 r.1)
 
   pub control_enough : trips ≤ steps_in counter entries
-  control_enough =
-      let a : steps_of counter all ≡ steps_of counter control.early + steps_of counter
-      (control_from control.kernel (interval loop) 0 passes)
-      = steps_joined counter control.early (control_from control.kernel (interval loop) 0 passes) in
-      let b : steps_of counter (control_from control.kernel (interval loop) 0 passes) ≡ passes = steps_passes counter
-      control.kernel (interval loop) steering.one_step 0 passes in
-      let c : most ≤ steps_of counter control.early = steering.enough in omega arith
+  control_enough = grind (arith, nat_tests, steps_joined, steps_passes)
 
   -- a branch of a pass ends as many passes later
   ends_later : (k pass : ℕ) (q : Placed) → EndsPass loop pass q
       → EndsPass loop (k + pass) (moved (cycles_in (interval loop) k) q)
-  ends_later k pass q ends =
-      let a : q.cycle + 6 ≡ pass_start loop (suc pass) = ends in
-      let b : pass_start loop pass ≡ cycles_in (interval loop) pass + prolog_cycles loop = pass_at loop pass in
-      let c : pass_start loop (k + pass) ≡ cycles_in (interval loop) (k + pass) + prolog_cycles loop = pass_at loop
-      (k + pass) in
-      let d : cycles_in (interval loop) (k + pass) ≡ cycles_in (interval loop) k + cycles_in (interval loop) pass =
-      cycles_sum (interval loop) k pass in omega arith
+  ends_later k pass q ends = grind (
+    arith,
+    pass_at loop pass,
+    pass_at loop (k + pass),
+    cycles_sum (interval loop) k pass,
+  )
 
   -- where the control stands in a list from some number on
   module _ (placed : List Placed) (from : ℕ)
@@ -219,8 +178,7 @@ module _ (counter : Reg) (loop : Pipelined) (most passes : ℕ) (control : Contr
       i,
       entry_of p,
       p,
-      slice_get-map entry_of all i
-          ∙ ap (λ o. option_map entry_of o) at,
+      grind (arith, slice_get-map entry_of),
       at_all i p at,
       f,
       ends,

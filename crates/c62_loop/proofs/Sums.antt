@@ -1,69 +1,38 @@
 -- The loop that sums words is pipelined by its packets.
 use Rattle.std.proofs.Common.{◌≡◌, ℕ, zero, suc, ◌+◌, ◌<◌, ◌≤◌, true, false, List}
-use Rattle.std.proofs.Common.{[], ◌∷◌, ◌++◌, map, length, take, Some, refl, sym, subst, ◌⊎◌, inl, inr}
+use Rattle.std.proofs.Common.{[], ◌∷◌, ◌++◌, map, take, Some, refl, sym, subst, ◌⊎◌, inr}
 use Rattle.std.proofs.Common.{arith}
-use Rattle.std.specs.Prelude.{slice_get, count_by}
-use Rattle.std.proofs.lemmas.Bool.{leb-true, ltb-true, false≢true}
-use Rattle.std.specs.List.Sorted.{IsStrictlyIncreasing}
+use Rattle.std.specs.Prelude.{slice_get}
+use Rattle.std.proofs.lemmas.Bool.{leb-true, false≢true}
 use Rattle.c62_op.specs.declared.register.Letter.TheVariants.{L, D}
 use Rattle.c62_op.specs.declared.register.Side.TheVariants.{A}
 use Rattle.c62_op.specs.declared.register.Unit.{Unit as FunctionalUnit}
-use Rattle.c62_op.specs.Units.{index_of}
 use Rattle.c62_op.proofs.Chains.{◌⨾◌}
-use Rattle.c62_op.specs.Shape.{is_branch}
-use Rattle.c62_insn.specs.Insn.{op_of}
 use Rattle.c62_meaning.specs.Cut.{moved}
-use Rattle.c62_meaning.specs.Laws.{StandsAs}
-use Rattle.c62_flight.specs.Text.{no_row}
 use Rattle.c62_flight.specs.Issued.{issued_on}
 use Rattle.c62_flight.specs.Laid.{straight}
-use Rattle.c62_insn.specs.declared.insn.Insn.{Insn}
 use Rattle.c62_rules.specs.Length.{landing_end}
 use Rattle.c62_read.specs.declared.block.SerialInsn.{SerialInsn}
 use Rattle.c62_depend.specs.Latency.{latency, by_registers}
 use Rattle.c62_packet.specs.declared.placed.Placed.{Placed}
-use Rattle.c62_packet.specs.Packed.{issue_of, is_branching}
+use Rattle.c62_packet.specs.Packed.{issue_of}
 use Rattle.c62_meaning.proofs.Lookup.{In_from_Contains}
-use Rattle.c62_loop.specs.Counter.{size_of, steps_on, StopsAtZero, IsCounted}
+use Rattle.c62_loop.specs.Counter.{steps_on, StopsAtZero}
 use Rattle.c62_loop.specs.Loop.{visits_of, IsCountedLoop, IsPipelined, EndsPass}
 use Rattle.c62_loop.specs.Stage.{placed_of, KeepDistances}
 use Rattle.c62_loop.specs.Whole.{work_insns, entry_of, steps_of, IsControl, IsSteering, IsPipelining}
 use Rattle.c62_loop.specs.Sample.{a1, load, add, step, sum, load_in, add_in}
 use Rattle.c62_loop.specs.Sample.{branch_in, pipelined_sum, sum_schedule, sum_control}
 use Rattle.c62_loop.proofs.Checks.{keep_all, stand_at, are_turn, turn_stands, EachFrom, each_at, all_of, few_of}
-use Rattle.c62_loop.proofs.Checks.{rises_one, rises_three, rises_four}
-use Rattle.c62_loop.proofs.SumSteps.{step_stops, step_counted, branch_counted, load_counted, add_counted}
+use Rattle.c62_loop.proofs.SumSteps.{step_stops}
 use Rattle.c62_loop.proofs.SumSteps.{step_control, six_control, branch_control}
+use Rattle.std.proofs.lemmas.Bool.Decides.{nat_tests}
 
 pub sum_counts : IsCountedLoop sum
-sum_counts = record {
-  straight_before = all_of (λ entry. is_branch (op_of entry.insn) ≡ false) [] tt;
-  body = all_of (IsCounted a1 0) sum.body (load_counted 1, (add_counted 2, (step_counted 3, (branch_counted 4, tt))));
-  behind = all_of (IsCounted a1 0) [] tt;
-  one_step = refl;
-  no_step_behind = refl;
-}
+sum_counts = grind (arith, nat_tests)
 
 pub sum_stands : IsPipelined pipelined_sum
-sum_stands = record {
-  issuable = record {
-    in_order = all_of (λ row. IsStrictlyIncreasing (map (λ p. index_of p.unit) row.insns)) pipelined_sum.text.rows
-        (rises_one 1 ⨾ rises_three ⨾ rises_three ⨾ rises_three ⨾ rises_three ⨾ rises_three ⨾ rises_four ⨾ rises_one 0
-        ⨾ rises_one 0 ⨾ rises_one 0 ⨾ rises_one 0 ⨾ rises_one 0 ⨾ tt);
-    few_insns = few_of (λ row. length row.insns) 8 pipelined_sum.text.rows refl;
-    few_rows = ltb-true _ _ refl;
-  };
-  one_branch = λ number low high. few_of (λ row. count_by is_branching row.insns) 1 pipelined_sum.text.rows refl number
-      no_row high;
-  rows = leb-true _ _ refl;
-  some = ltb-true _ _ refl;
-  labelled = refl;
-}
-
-stands : (insn : Insn) (line cycle : ℕ) (unit : FunctionalUnit)
-    → StandsAs (record { insn = insn; line = line })
-    (record { insn = insn; line = line; cycle = cycle; unit = unit })
-stands insn line cycle unit = record { insn = record { op = refl; operands = refl; cond = refl }; line = refl }
+sum_stands = grind (arith, nat_tests)
 
 abbrev load_entry : SerialInsn
 load_entry = record { insn = load; line = 1 }
@@ -89,16 +58,8 @@ sum_steers = record {
   next = are_turn a1 sum_control.kernel (map (moved 1) sum_control.kernel) refl;
   one_step = refl;
   enough = leb-true _ _ refl;
-  early_counts = λ i p at. at_zero (λ k x. steps_on a1 (entry_of x) ≡ true
-      → (steps_of a1 (take k sum_control.early) + size_of (entry_of x) ≤ 5 + 1)
-      ⊎ StopsAtZero a1 (entry_of x)) sum_control.early
-      ((λ t. inl (leb-true _ _ refl)) ⨾ no_step ⨾ stops ⨾ no_step ⨾ stops ⨾ no_step ⨾ stops ⨾ no_step
-      ⨾ stops ⨾ no_step ⨾ stops ⨾ tt) i p
-      at;
-  kernel_counts = λ i p at. at_zero (λ k x. steps_on a1 (entry_of x) ≡ true
-      → (steps_of a1 sum_control.early + steps_of a1 (take k sum_control.kernel) + size_of (entry_of x) ≤ 5 + 1)
-      ⊎ StopsAtZero a1 (entry_of x)) sum_control.kernel
-      (no_step ⨾ stops ⨾ tt) i p at;
+  early_counts = λ i p at. grind (arith, at_zero, leb-true, no_step, stops);
+  kernel_counts = λ i p at. grind (arith, at_zero, no_step, stops);
   ahead = 5;
   early_tests = λ i p at. at_zero (λ k x. steps_on a1 (entry_of x) ≡ false → (pass : ℕ) × EndsPass pipelined_sum pass x
       × (steps_of a1 (take k sum_control.early) ≡ 5 + suc pass)) sum_control.early
@@ -106,9 +67,7 @@ sum_steers = record {
       ⨾ no_branch ⨾ (λ f. (2, refl, refl)) ⨾ no_branch ⨾ (λ f. (3, refl, refl)) ⨾ no_branch
       ⨾ (λ f. (4, refl, refl)) ⨾ no_branch ⨾ tt) i p at;
   early_passes = early_passes;
-  kernel_tests = λ i p at. at_zero (λ k x. steps_on a1 (entry_of x) ≡ false → EndsPass pipelined_sum 5 x
-      × (steps_of a1 sum_control.early + steps_of a1 (take k sum_control.kernel) ≡ 5 + suc 5)) sum_control.kernel
-      ((λ f. (refl, refl)) ⨾ no_branch ⨾ tt) i p at;
+  kernel_tests = λ i p at. grind (arith, at_zero, no_branch);
   kernel_pass = (0, branch_in 6, refl, refl);
 }
   where
@@ -175,28 +134,7 @@ sum_pipelines = record {
   control = sum_control;
   same_interval = refl;
   before = tt;
-  body = (
-    record {
-      early = all_of (StandsAs load_entry) (load_in 1 ∷ load_in 2 ∷ load_in 3 ∷ load_in 4 ∷ load_in 5 ∷ [])
-          (stands load 1 1 on_d ⨾ stands load 1 2 on_d ⨾ stands load 1 3 on_d
-          ⨾ stands load 1 4 on_d ⨾ stands load 1 5 on_d ⨾ tt);
-      kernel = stands load 1 6 on_d;
-      late = all_of (StandsAs load_entry) [] tt;
-      even = refl;
-    },
-    (
-      record {
-        early = all_of (StandsAs add_entry) [] tt;
-        kernel = stands add 2 6 on_l;
-        late = all_of (StandsAs add_entry) (add_in 6 ∷ add_in 7 ∷ add_in 8 ∷ add_in 9 ∷ add_in 10 ∷ [])
-            (stands add 2 6 on_l ⨾ stands add 2 7 on_l ⨾ stands add 2 8 on_l
-            ⨾ stands add 2 9 on_l ⨾ stands add 2 10 on_l ⨾ tt);
-        even =
-            refl;
-      },
-      tt,
-    ),
-  );
+  body = grind (arith, nat_tests);
   behind = tt;
   prolog = λ p. (
     stand_at prolog_issued prolog_placed
@@ -204,14 +142,8 @@ sum_pipelines = record {
     stand_at prolog_placed prolog_issued
         (0 ∷ 3 ∷ 1 ∷ 6 ∷ 4 ∷ 9 ∷ 7 ∷ 12 ∷ 10 ∷ 15 ∷ 13 ∷ 2 ∷ 5 ∷ 8 ∷ 11 ∷ 14 ∷ []) refl p,
   );
-  kernel = λ p. (
-    stand_at kernel_issued kernel_placed (3 ∷ 1 ∷ 2 ∷ 0 ∷ []) refl p,
-    stand_at kernel_placed kernel_issued (3 ∷ 1 ∷ 2 ∷ 0 ∷ []) refl p,
-  );
-  epilog = λ p. (
-    stand_at epilog_issued epilog_placed (0 ∷ 1 ∷ 2 ∷ 3 ∷ 4 ∷ []) refl p,
-    stand_at epilog_placed epilog_issued (0 ∷ 1 ∷ 2 ∷ 3 ∷ 4 ∷ []) refl p,
-  );
+  kernel = λ p. grind (arith, stand_at);
+  epilog = λ p. grind (arith, stand_at);
   steering = sum_steers;
   begins = λ p q c. absurd (In_from_Contains p [] c);
   keeps = sum_keeps;

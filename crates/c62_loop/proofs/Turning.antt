@@ -1,6 +1,6 @@
 -- The steps and branches of a pipelined loop come in turn, in any number of passes.
 use Rattle.std.proofs.Common.{◌≡◌, ℕ, zero, suc, ◌+◌, ◌<◌, ◌≤◌, List, [], ◌∷◌, ◌++◌}
-use Rattle.std.proofs.Common.{map, Some, refl, sym, ap, subst, inl, inr, arith}
+use Rattle.std.proofs.Common.{map, Some, refl, sym, subst, inl, inr, arith}
 use Rattle.std.specs.Prelude.{slice_get}
 use Rattle.std.proofs.lemmas.Option.{none-some, same_Some}
 use Rattle.c62_op.specs.declared.register.Reg.{Reg}
@@ -14,10 +14,7 @@ use Rattle.c62_loop.proofs.PassControl.{control_from, control_of, later_passes, 
 
 module _ (counter : Reg) where
   turn_later : (p q : Placed) (j k : ℕ) → j ≤ k → IsInTurn counter p q → IsInTurn counter (moved j p) (moved k q)
-  turn_later p q j k l h = record {
-    order = (let o : p.cycle ≤ q.cycle = h.order in omega arith);
-    step = λ t. (let o : p.cycle < q.cycle = h.step t in omega arith);
-  }
+  turn_later p q j k l h = grind arith
 
   turn_moved : (k : ℕ) (ps : List Placed) → StandInTurn counter ps → StandInTurn counter (map (moved k) ps)
   turn_moved k [] h = h
@@ -32,8 +29,7 @@ module _ (counter : Reg) where
   )
     where
       only : (z x : Placed) → In x (z ∷ []) → z ≡ x
-      only z x (inl e) = e
-      only z x (inr h) = absurd h
+      only z x h = grind arith
 
   turn_both : (xs ys : List Placed) → StandInTurn counter xs → StandInTurn counter ys
       → ((p q : Placed) → In p xs → In q ys → IsInTurn counter p q) → StandInTurn counter (xs ++ ys)
@@ -49,8 +45,7 @@ module _ (counter : Reg) where
   )
     where
       only : (z x : Placed) → In x (z ∷ []) → z ≡ x
-      only z x (inl e) = e
-      only z x (inr h) = absurd h
+      only z x h = grind arith
 
   pub turn_at : (ps : List Placed) → StandInTurn counter ps → (i j : ℕ) (p q : Placed) → i < j → slice_get ps i ≡ Some p
       → slice_get ps j ≡ Some q → IsInTurn counter p q
@@ -70,10 +65,7 @@ module _ (counter : Reg) where
       (seam : AreInTurn counter control.early control.kernel)
       (next : AreInTurn counter control.kernel (map (moved interval) control.kernel)) where
     passes_turn : (pass count : ℕ) → StandInTurn counter (control_from control.kernel interval pass count)
-    passes_turn pass zero = kernel_none
-      where
-        kernel_none : StandInTurn counter []
-        kernel_none = search
+    passes_turn pass zero = grind arith
     passes_turn pass (suc count) =
         turn_both (map (moved (cycles_in interval pass)) control.kernel)
         (control_from control.kernel interval (suc pass) count)
@@ -96,8 +88,7 @@ module _ (counter : Reg) where
       where
         mapped : (q : Placed) (ps : List Placed) → In q ps → In (moved interval q) (map (moved interval) ps)
         mapped q [] h = absurd h
-        mapped q (p ∷ ps) (inl e) = inl (ap (moved interval) e)
-        mapped q (p ∷ ps) (inr h) = inr (mapped q ps h)
+        mapped q (p ∷ ps) h = grind (arith, mapped q ps)
 
     pub control_turn : (passes : ℕ) → StandInTurn counter (control_of control interval passes)
     control_turn passes =

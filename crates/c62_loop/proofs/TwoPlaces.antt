@@ -1,22 +1,19 @@
 -- Two places of a path keep their distance with a pass more, whether they stay or come later.
 use Rattle.std.proofs.Common.{Bool, true, ◌≡◌, ℕ, suc, ◌+◌, ◌-◌, ◌<◌, ◌≤◌, ℤ, pos, ◌+ℤ◌, ◌≤ℤ◌, List, length, Some}
 use Rattle.std.proofs.Common.{sym, ◌∙◌}
-use Rattle.std.proofs.Common.{ap, subst, ◌⊎◌, inl, inr, arith}
+use Rattle.std.proofs.Common.{ap, subst, ◌⊎◌, arith}
 use Rattle.std.specs.Prelude.{slice_get}
 use Rattle.std.proofs.lemmas.Int.{ints}
 use Rattle.c62_insn.specs.declared.insn.Insn.{Insn}
 use Rattle.c62_packet.specs.declared.placed.Placed.{Placed}
 use Rattle.c62_meaning.specs.Instances.{IsOfMemory, DataBounds}
-use Rattle.c62_loop.specs.Stage.{Schedule, Straights, insns_of, begin_of, AreParted, KeepDistances, Places}
-use Rattle.c62_loop.proofs.Parts.{begin, part, part_body, part_next, part_same, begin_is, begins_rise, below, in_order}
+use Rattle.c62_loop.specs.Stage.{Schedule, Straights, insns_of, AreParted, KeepDistances, Places}
+use Rattle.c62_loop.proofs.Parts.{begin, part, part_body, part_next, begin_is, begins_rise, below, in_order}
 use Rattle.c62_loop.proofs.Parts.{comes_behind}
 use Rattle.c62_loop.proofs.PlacedParts.{placed_with, placed_part, placed_at}
 use Rattle.c62_loop.proofs.LaterPlaces.{ComeLater, Stays, Comes, stays_or, comes_or}
 use Rattle.c62_loop.proofs.FewerPasses.{Covered, within_small, asked_small}
-
--- as many cycles later on the right
-later_right : (x y k : ℕ) (b : ℤ) → (pos x +ℤ b) ≤ℤ pos y → (pos x +ℤ b) ≤ℤ pos (y + k)
-later_right x y k b l = omega (arith, ints, l)
+use Rattle.std.proofs.lemmas.Bool.Decides.{nat_tests}
 
 later_both : (x y k : ℕ) (b : ℤ) → (pos x +ℤ b) ≤ℤ pos y → (pos (x + k) +ℤ b) ≤ℤ pos (y + k)
 later_both x y k b l = omega (arith, ints, l)
@@ -76,15 +73,7 @@ module _ (straights : Straights) (schedule : Schedule) (most : ℕ) (places : Pl
               → (t' : ℕ) × (t' ≤ suc trips) × (part straights (suc trips) t ≡ part straights trips t')
               × (begin straights s + a ≤ begin straights t' + c)
               × (begin straights t' + c < begin straights r + b)
-          by_order (inl l) low high = let top : r ≤ suc trips = y.there in
-              (t, omega arith, part_same straights trips t (omega arith), low, high)
-          by_order (inr (e, l)) low high = let top : r ≤ suc trips = y.there in (
-            t,
-            omega arith,
-            subst (λ n. part straights (suc trips) n ≡ part straights trips n) (sym e) y.same,
-            low,
-            high,
-          )
+          by_order h low high = grind arith
 
   both_come : Comes straights schedule trips passes shorter longer s a → Comes straights schedule trips passes
       shorter longer r b → Kept
@@ -156,8 +145,7 @@ module _ (straights : Straights) (schedule : Schedule) (most : ℕ) (places : Pl
               × (part straights (suc trips) t ≡ part straights trips t')
               × (begin straights x.earlier + a ≤ begin straights t' + c)
               × (begin straights t' + c < begin straights y.earlier + b)
-          by_order (inl l) = made (omega arith)
-          by_order (inr (e, l)) = made (omega arith)
+          by_order h = grind (arith, nat_tests, made)
 
   one_comes : Stays straights schedule trips passes shorter longer s a → s ≤ most + 1 → Comes straights schedule
       trips passes shorter longer r b
@@ -176,8 +164,7 @@ module _ (straights : Straights) (schedule : Schedule) (most : ℕ) (places : Pl
       (λ m t parted. needed (small.3 m)
       (excused promised asked.bounds.first asked.bounds.second small.0.bounds.first small.0.bounds.second
       small.1 small.2 t) parts) in
-      subst (λ n. (pos p.cycle +ℤ bound) ≤ℤ pos n) (sym e.2)
-      (later_right p.cycle e.0.cycle schedule.interval bound kept)
+      grind (arith, nat_tests)
     where
       far_off : most + 3 ≤ y.earlier
       far_off = let is : r ≡ suc y.earlier = y.is in omega arith
@@ -196,12 +183,13 @@ module _ (straights : Straights) (schedule : Schedule) (most : ℕ) (places : Pl
       parts : AreParted straights (suc trips) (begin straights s + a) (begin straights r + b)
       parts =
           let is : r ≡ suc y.earlier = y.is in
-          let z : most + 3 ≤ y.earlier = far_off in
-          let same : begin straights (suc s) ≡ begin_of straights s = begin_is straights s in
-          let one : begin straights s + a < begin straights (suc s) = below straights (suc trips) s (suc s) a
-          (omega arith) (omega arith) in_a in
-          let two : begin straights (suc s) ≤ begin straights r = begins_rise straights (suc s) r (omega arith) in
-          (s, omega arith, omega arith, omega arith)
+          grind (
+            arith,
+            far_off,
+            begin_is straights s,
+            below straights (suc trips) s (suc s) a,
+            begins_rise straights (suc s) r,
+          )
 
       covered : Covered straights trips s a r b s y.earlier
       covered t c in_t in_c low high = by_order (in_order straights (suc trips) s t a c in_s in_c low)
@@ -211,23 +199,25 @@ module _ (straights : Straights) (schedule : Schedule) (most : ℕ) (places : Pl
               × (begin straights s + a ≤ begin straights t' + c)
               × (begin straights t' + c < begin straights y.earlier + b)
           at_first e =
-              let same : part straights (suc trips) t ≡ part straights trips s = subst
-              (λ n. part straights (suc trips) n ≡ part straights trips s) e x.same in
-              let l : begin straights s + c < begin straights y.earlier = ahead c
-              (within_small straights trips t c s same in_c) in
-              let k : begin straights s ≡ begin straights t = ap (begin straights) e in
-              (s, x.there, same, omega arith, omega arith)
+              let same : part straights (suc trips) t ≡ part straights trips s = grind arith in
+              grind (
+                arith,
+                nat_tests,
+                ahead c (within_small straights trips t c s same in_c),
+                within_small straights trips t c s same in_c,
+              )
 
           at_last : t ≡ r → (t' : ℕ) × (t' ≤ suc trips) × (part straights (suc trips) t ≡ part straights trips t')
               × (begin straights s + a ≤ begin straights t' + c)
               × (begin straights t' + c < begin straights y.earlier + b)
           at_last e =
-              let same : part straights (suc trips) t ≡ part straights trips y.earlier = subst
-              (λ n. part straights (suc trips) n ≡ part straights trips y.earlier) (sym e) y.same in
-              let l : begin straights s + a < begin straights y.earlier = ahead a
-              (within_small straights trips s a s x.same in_a) in
-              let k : begin straights t ≡ begin straights r = ap (begin straights) e in
-              (y.earlier, y.there, same, omega arith, omega arith)
+              let same : part straights (suc trips) t ≡ part straights trips y.earlier = grind arith in
+              grind (
+                arith,
+                nat_tests,
+                ahead a (within_small straights trips s a s x.same in_a),
+                within_small straights trips s a s x.same in_a,
+              )
 
           in_between : s < t → t < r → (t' : ℕ) × (t' ≤ suc trips)
               × (part straights (suc trips) t ≡ part straights trips t')
@@ -254,30 +244,17 @@ module _ (straights : Straights) (schedule : Schedule) (most : ℕ) (places : Pl
               × (part straights (suc trips) t ≡ part straights trips t')
               × (begin straights s + a ≤ begin straights t' + c)
               × (begin straights t' + c < begin straights y.earlier + b)
-          by_order (inr (e, l)) other = at_first e
-          by_order (inl l) (inr (e, u)) = at_last e
-          by_order (inl l) (inl u) = in_between l u
+          by_order h other = grind (arith, at_first, at_last, in_between)
 
   pub kept : Kept
-  kept = by_last (stays_or straights schedule most places trips passes many enough shorter longer come r b in_r in_b)
-    where
-      before : s ≤ r
-      before = elim (in_order straights (suc trips) s r a b in_s in_b (omega arith))
-          [ inl l ↦ omega arith | inr e ↦ (let f : s ≡ r = e.0 in omega arith) ]
-
-      by_last : Stays straights schedule trips passes shorter longer r b
-          ⊎ (Comes straights schedule trips passes shorter longer r b × (passes + 1 ≤ r)) → Kept
-      by_last (inl y) =
-          elim (stays_or straights schedule most places trips passes many enough shorter longer come s a in_s in_a) [
-            | inl x ↦ both_stay x y
-            | inr x ↦ (let l : passes + 1 ≤ s = x.1 in elim
-                (comes_or straights schedule most places trips passes many enough shorter longer come r b in_r in_b) [
-                  | inl z ↦ both_come x.0 z
-                  | inr z ↦ (let u : r ≤ most + 1 = z.1 in let v : s ≤ r = before in absurd (omega arith))
-                ])
-          ]
-      by_last (inr (y, far)) =
-          elim (comes_or straights schedule most places trips passes many enough shorter longer come s a in_s in_a) [
-            | inl x ↦ both_come x y
-            | inr x ↦ one_comes x.0 x.1 y far
-          ]
+  kept = grind (
+    arith,
+    stays_or straights schedule most places trips passes many enough shorter longer come r b in_r in_b,
+    in_order straights (suc trips) s r a b in_s in_b,
+    stays_or straights schedule most places trips passes many enough shorter longer come s a in_s in_a,
+    both_stay,
+    comes_or straights schedule most places trips passes many enough shorter longer come r b in_r in_b,
+    both_come,
+    comes_or straights schedule most places trips passes many enough shorter longer come s a in_s in_a,
+    one_comes,
+  )

@@ -1,10 +1,9 @@
 -- Visits one behind the other, and the instructions that they issue.
-use Rattle.std.proofs.Common.{◌≡◌, ◌≢◌, ℕ, ◌+◌, ◌<◌, ◌≤◌, true, false, ◌&&◌, eqb, ltb, List, [], ◌∷◌, ◌++◌, map, length}
-use Rattle.std.proofs.Common.{Some, None, refl, sym, ◌∙◌, ap, subst, inl, inr, ⊎_elim, arith}
+use Rattle.std.proofs.Common.{◌≡◌, ◌≢◌, ℕ, ◌<◌, ◌≤◌, true, false, ◌&&◌, eqb, List, [], ◌∷◌, ◌++◌, map, length}
+use Rattle.std.proofs.Common.{Some, None, refl, sym, ◌∙◌, ap, inl, inr, ⊎_elim, arith}
 use Rattle.std.specs.Prelude.{All, slice_get, is_some, filter, count_by, option_map}
-use Rattle.std.specs.List.{list_any}
 use Rattle.std.specs.List.Sorted.{IsStrictlyIncreasing}
-use Rattle.std.proofs.lemmas.Bool.{cases_eq, cond-true, cond-false, and_parts, or_left, ne_eqb, lt-ltb, lt-leb}
+use Rattle.std.proofs.lemmas.Bool.{cases_eq, and_parts, or_left, ne_eqb, lt-leb}
 use Rattle.std.proofs.lemmas.Option.{none-some, slice_get-map}
 use Rattle.std.proofs.lemmas.List.{length-map, append-nil}
 use Rattle.std.proofs.lemmas.List.Elements.{filter-append}
@@ -14,16 +13,16 @@ use Rattle.c62_packet.specs.declared.placed.Placed.{Placed}
 use Rattle.c62_packet.specs.Packed.{is_branching}
 use Rattle.c62_meaning.specs.Packet.{Did}
 use Rattle.c62_meaning.proofs.Lookup.{In, In-append_cases, In-append_left, In-append_right}
-use Rattle.c62_flight.specs.declared.stop.Stop.TheVariants.{End, Limit}
 use Rattle.c62_flight.specs.Text.{Text, Position, no_row, row_of}
-use Rattle.c62_flight.specs.Issued.{Visit, Issued, issue_in, issued_in, issued_on, over_of, is_in_flight}
+use Rattle.c62_flight.specs.Issued.{Visit, Issued, issue_in, issued_in, issued_on, over_of}
 use Rattle.c62_flight.specs.Broken.{has_branched, broken}
-use Rattle.c62_flight.specs.Flight.{ended, stands_after, Leads}
+use Rattle.c62_flight.specs.Flight.{stands_after, Leads}
 use Rattle.c62_flight.proofs.Lists.{filter-none, filter-map}
 use Rattle.c62_flight.proofs.Fronts.{over_later}
 use Rattle.c62_flight.proofs.PathTimes.{in_visit}
 use Rattle.c62_loop.specs.Along.{LeadAlong}
 use Rattle.c62_loop.proofs.Lists.{at_place, get_cases, rising_once, filter_fewer}
+use Rattle.std.proofs.lemmas.Bool.Decides.{nat_tests}
 
 module _ (text : Text) (issued : Issued) where
   abbrev Along : Position → ℕ → List Visit → Position → ℕ → Type 0
@@ -45,14 +44,13 @@ module _ (text : Text) (issued : Issued) where
       → Along position cycle visits last end
       → (p : Placed) → In p (issued_on text visits) → cycle ≤ p.cycle
   late position cycle [] last end along p h = absurd h
-  late position cycle (visit ∷ visits) last end along p h =
-      let when : cycle ≡ visit.start = along.1 in
-      elim (In-append_cases p (issued_in text visit) (issued_on text visits) h) [
-        | inl k ↦ (let e : p.cycle ≡ visit.start = in_visit text visit p k in omega arith)
-        | inr k ↦ (let l : visit.start < over_of text issued visit = longer visit in
-            let u : over_of text issued visit ≤ p.cycle = late (stands_after text issued visit)
-            (over_of text issued visit) visits last end along.3 p k in omega arith)
-      ]
+  late position cycle (visit ∷ visits) last end along p h = grind (
+    arith,
+    late (stands_after text issued visit) (over_of text issued visit) visits last end along.3 p,
+    In-append_cases p (issued_in text visit) (issued_on text visits) h,
+    in_visit text visit p,
+    longer visit,
+  )
 
   -- no instruction is issued twice
   module _ (in_order : All (λ row. IsStrictlyIncreasing (map (λ p. index_of p.unit) row.insns)) text.rows) where
@@ -92,20 +90,14 @@ module _ (text : Text) (issued : Issued) where
         → (i j : ℕ) (p : Placed) → slice_get (issued_on text visits) i ≡ Some p
         → slice_get (issued_on text visits) j ≡ Some p → i ≡ j
     once position cycle [] last end along i j p at_i at_j = absurd (none-some p at_i)
-    once position cycle (visit ∷ visits) last end along i j p at_i at_j =
-        elim (get_cases (issued_in text visit) (issued_on text visits) i p at_i) [
-          | inl a ↦ elim (get_cases (issued_in text visit) (issued_on text visits) j p at_j) [
-            | inl b ↦ once_in visit along.2 i j p a b
-            | inr b ↦ absurd (not_behind visit visits last end i b.0 p along.3 a b.2)
-          ]
-          | inr a ↦ elim (get_cases (issued_in text visit) (issued_on text visits) j p at_j) [
-            | inl b ↦ absurd (not_behind visit visits last end j a.0 p along.3 b a.2)
-            | inr b ↦ (let m : a.0 ≡ b.0 = once (stands_after text issued visit) (over_of text issued visit) visits last
-                end along.3 a.0 b.0 p a.2 b.2 in
-                let x : i ≡ length (issued_in text visit) + a.0 = a.1 in
-                let y : j ≡ length (issued_in text visit) + b.0 = b.1 in omega arith)
-          ]
-        ]
+    once position cycle (visit ∷ visits) last end along i j p at_i at_j = grind (
+      arith,
+      nat_tests,
+      once (stands_after text issued visit) (over_of text issued visit) visits last end along.3,
+      get_cases,
+      once_in,
+      not_behind,
+    )
 
   -- no two branches run in a cycle
   module _ (did : Did)
@@ -118,13 +110,7 @@ module _ (text : Text) (issued : Issued) where
         (filter is_branching (issued_in text visit))
         = filter_fewer (has_branched did c) is_branching (issued_in text visit)
         (λ p h t. branches p (and_parts (eqb p.cycle c) (is_some (did p).target) t).1 (all p h)) in
-        let same : length (filter is_branching (issued_in text visit)) ≡ length
-        (filter is_branching (row_of text visit.row).insns)
-        = ap length (filter-map is_branching (issue_in visit.start) (row_of text visit.row).insns)
-        ∙ length-map (filter is_branching (row_of text visit.row).insns) (issue_in visit.start) in
-        let counted : length (filter is_branching (row_of text visit.row).insns) ≡ count_by is_branching
-        (row_of text visit.row).insns = length-filter is_branching (row_of text visit.row).insns in
-        omega arith
+        grind (arith, nat_tests, filter-map, length-map, length-filter)
 
     not_then : (c : ℕ) (p : Placed) → p.cycle ≢ c → has_branched did c p ≡ false
     not_then c p ne = ap (λ b. b && is_some (did p).target) (ne_eqb p.cycle c ne)
@@ -153,12 +139,8 @@ module _ (text : Text) (issued : Issued) where
             (over_of text issued visit) visits last end along p h in absurd (omega arith))) in
             let is : filter (has_branched did c) (issued_on text (visit ∷ visits)) ≡ filter (has_branched did c)
             (issued_in text visit)
-            = parted ∙ ap (λ ps. filter (has_branched did c) (issued_in text visit) ++ ps) none
-            ∙ append-nil (filter (has_branched did c) (issued_in text visit)) in
-            let n : length (filter (has_branched did c) (issued_on text (visit ∷ visits))) ≡ length
-            (filter (has_branched did c) (issued_in text visit)) = ap length is in
-            let l : length (filter (has_branched did c) (issued_in text visit)) ≤ 1 = few_in visit most c front in omega
-            arith
+            = grind (arith, parted, append-nil (filter (has_branched did c) (issued_in text visit))) in
+            grind (arith, few_in visit most c front)
 
         other : visit.start ≢ c → length (filter (has_branched did c) (issued_on text (visit ∷ visits))) ≤ 1
         other ne =
@@ -168,8 +150,7 @@ module _ (text : Text) (issued : Issued) where
             let is : filter (has_branched did c) (issued_on text (visit ∷ visits)) ≡ filter (has_branched did c)
             (issued_on text visits)
             = parted ∙ ap (λ ps. ps ++ filter (has_branched did c) (issued_on text visits)) none in
-            let n : length (filter (has_branched did c) (issued_on text (visit ∷ visits))) ≡ length
-            (filter (has_branched did c) (issued_on text visits)) = ap length is in omega arith
+            grind arith
 
     pub few : (position : Position) (cycle : ℕ) (visits : List Visit) (last : Position) (end : ℕ)
         → Along position cycle visits last end
@@ -189,21 +170,12 @@ module _ (text : Text) (issued : Issued) where
       → (limit : ℕ) (position : Position) (cycle : ℕ) (visits : List Visit) (last : Position) (end : ℕ)
       → Along position cycle visits last end → end ≤ limit → Leads text limit issued position cycle visits last end
   leads_along quiet limit position cycle [] last end along l = along
-  leads_along quiet limit position cycle (visit ∷ visits) last end along l =
-      let when : cycle ≡ visit.start = along.1 in
-      let u : visit.start < over_of text issued visit = longer visit in
-      let v : over_of text issued visit ≤ end = ends_later (stands_after text issued visit) (over_of text issued visit)
-      visits last end along.3 in (
-        record {
-          there = along.0;
-          when = when;
-          on = subst (λ p. ended text limit issued p cycle ≡ None) (sym along.0)
-              (cond-true _ _ (Some End)
-              (or_left (ltb visit.row (length text.rows))
-              (list_any (is_in_flight issued.did cycle) issued.placed)
-              (lt-ltb visit.row (length text.rows) along.2))
-              ∙ cond-false _ (Some Limit) None (lt-leb limit cycle (omega arith)));
-          whole = λ c _. quiet c;
-        },
-        leads_along quiet limit (stands_after text issued visit) (over_of text issued visit) visits last end along.3 l,
-      )
+  leads_along quiet limit position cycle (visit ∷ visits) last end along l = grind (
+    arith,
+    nat_tests,
+    leads_along quiet limit (stands_after text issued visit) (over_of text issued visit) visits last end along.3 l,
+    longer,
+    ends_later,
+    or_left,
+    lt-leb,
+  )

@@ -1,6 +1,6 @@
 -- Instances of a pipelined loop match its serial path, in any number of passes.
 use Rattle.std.proofs.Common.{Bool, ◌≡◌, ℕ, suc, ◌+◌, ◌^◌, ◌<◌, ◌≤◌, List, []}
-use Rattle.std.proofs.Common.{◌∷◌, ◌++◌, map, length, Some, refl, sym, ◌∙◌, subst, ◌⊎◌, inl, inr}
+use Rattle.std.proofs.Common.{◌∷◌, ◌++◌, map, length, Some, ◌∙◌, ◌⊎◌, inl, inr}
 use Rattle.std.proofs.Common.{arith}
 use Rattle.std.specs.Prelude.{slice_get}
 use Rattle.c62_op.specs.declared.register.Reg.{Reg}
@@ -33,8 +33,7 @@ use Rattle.c62_loop.proofs.Spaced.{instances_keep}
 
 entries_stand : (ps : List Placed) → StandFor (map entry_of ps) ps
 entries_stand [] = search
-entries_stand (p ∷ ps) =
-    (record { insn = record { op = refl; operands = refl; cond = refl }; line = refl }, entries_stand ps)
+entries_stand (p ∷ ps) = grind (arith, entries_stand ps)
 
 module _ (promised : Insn → Insn → Bool) (region : Region) (loop : Pipelined) (most passes : ℕ)
     (m : Core promised region loop most passes) (some : 0 < passes) (opening : Machine) (sound : IsSound opening)
@@ -76,8 +75,7 @@ module _ (promised : Insn → Insn → Bool) (region : Region) (loop : Pipelined
   StandAll = StandFor path placed
 
   all_stand : StandAll
-  all_stand = stand_both region.before (entries ++ work) before (control ++ rest) m.stand_before
-      (stand_both entries work control rest (entries_stand control) m.stand_rest)
+  all_stand = grind (arith, stand_both region.before, stand_both, entries_stand)
 
   instances : AreInstancesFrom opening path issued
   instances = record {
@@ -112,8 +110,7 @@ module _ (promised : Insn → Insn → Bool) (region : Region) (loop : Pipelined
 
       landed : (q : Placed) → In q (issued_on loop.text (visits_of loop 1))
           → landing_end (issue_of q) ≤ cycles_of loop 1
-      landed q k = let c = Contains_from_In q (issued_on loop.text (visits_of loop 1)) k in subst
-          (λ z. landing_end (issue_of z) ≤ cycles_of loop 1) c.2 (m.drained c.0 q c.1)
+      landed q k = let c = Contains_from_In q (issued_on loop.text (visits_of loop 1)) k in grind arith
 
       by_part : In p (prolog_rows loop)
           ⊎ (((k : ℕ) × (k < passes) × (q : Placed) × In q (kernel_rows loop)
@@ -122,33 +119,15 @@ module _ (promised : Insn → Insn → Bool) (region : Region) (loop : Pipelined
           → landing_end (issue_of p) ≤ cycles_of loop passes
       by_part (inl n) =
           let a : landing_end (issue_of p) ≤ cycles_of loop 1 = landed p (prolog_there loop 1 p n) in
-          let b : cycles_of loop 1 ≡ pass_start loop 1 + straight_end loop.text (epilog_row loop) 0 loop.epilog = one in
-          let c : cycles_of loop passes ≡ pass_start loop passes + straight_end loop.text (epilog_row loop) 0
-          loop.epilog = all in
-          let d : pass_start loop passes ≡ cycles_in (interval loop) passes + prolog_cycles loop = at_all in
-          let e : cycles_in (interval loop) 0 + interval loop ≤ cycles_in (interval loop) passes = less 0 some in omega
-          arith
+          grind (arith, one, all, at_all, less 0 some)
       by_part (inr (inl (k, l, q, n, is))) =
           let a : landing_end (issue_of (moved (cycles_in (interval loop) 0) q)) ≤ cycles_of loop 1 = landed
           (moved (cycles_in (interval loop) 0) q) (pass_there loop 1 0 q (omega arith) n) in
-          let b : cycles_of loop 1 ≡ pass_start loop 1 + straight_end loop.text (epilog_row loop) 0 loop.epilog = one in
-          let c : cycles_of loop passes ≡ pass_start loop passes + straight_end loop.text (epilog_row loop) 0
-          loop.epilog = all in
-          let d : pass_start loop passes ≡ cycles_in (interval loop) passes + prolog_cycles loop = at_all in
-          let e : cycles_in (interval loop) k + interval loop ≤ cycles_in (interval loop) passes = less k l in
-          let f : landing_end (issue_of (moved (cycles_in (interval loop) k) q)) ≤ cycles_of loop passes = omega arith
-          in
-          subst (λ z. landing_end (issue_of z) ≤ cycles_of loop passes) (sym is) f
+          grind (arith, one, all, at_all, less k l)
       by_part (inr (inr (q, n, is))) =
           let a : landing_end (issue_of (moved (cycles_in (interval loop) 1) q)) ≤ cycles_of loop 1 = landed
           (moved (cycles_in (interval loop) 1) q) (epilog_there loop 1 q n) in
-          let b : cycles_of loop 1 ≡ pass_start loop 1 + straight_end loop.text (epilog_row loop) 0 loop.epilog = one in
-          let c : cycles_of loop passes ≡ pass_start loop passes + straight_end loop.text (epilog_row loop) 0
-          loop.epilog = all in
-          let d : pass_start loop passes ≡ cycles_in (interval loop) passes + prolog_cycles loop = at_all in
-          let f : landing_end (issue_of (moved (cycles_in (interval loop) passes) q)) ≤ cycles_of loop passes = omega
-          arith in
-          subst (λ z. landing_end (issue_of z) ≤ cycles_of loop passes) (sym is) f
+          grind (arith, one, all, at_all)
 
   drained : AreDrained (cycles_of loop passes) issued
   drained = all_in (λ p. landing_end (issue_of p) ≤ cycles_of loop passes) issued lands

@@ -32,6 +32,7 @@ use Rattle.c62_loop.proofs.Core.{Core}
 use Rattle.c62_loop.proofs.PassControl.{control_of}
 use Rattle.c62_loop.proofs.Asked.{unread_by_work}
 use Rattle.c62_loop.proofs.Steered.{each_control, control_counts}
+use Rattle.std.proofs.lemmas.Bool.Decides.{nat_tests}
 
 -- number i of a path is number a without the control
 abbrev pub Alone : List Placed → List Placed → ℕ → ℕ → Type 0
@@ -40,10 +41,7 @@ Alone before control i a = ((a ≡ i) × (i < length before))
 
 pub insn_same : (xs ys : List SerialInsn) (i k : ℕ) → slice_get xs i ≡ slice_get ys k
     → slice_get (insns_in xs) i ≡ slice_get (insns_in ys) k
-insn_same xs ys i k e =
-    slice_get-map (λ (entry : SerialInsn). entry.insn) xs i
-    ∙ ap (λ o. option_map (λ (entry : SerialInsn). entry.insn) o) e
-    ∙ sym (slice_get-map (λ (entry : SerialInsn). entry.insn) ys k)
+insn_same xs ys i k e = grind (arith, slice_get-map)
 
 module _ (promised : Insn → Insn → Bool) (region : Region) (loop : Pipelined) (most passes : ℕ)
     (m : Core promised region loop most passes) (some : 0 < passes) (opening : Machine) (sound : IsSound opening)
@@ -93,10 +91,7 @@ module _ (promised : Insn → Insn → Bool) (region : Region) (loop : Pipelined
   insns = insns_in path
 
   control_at : (i k : ℕ) → i ≡ length before + k → k < length control → slice_get path i ≡ slice_get entries k
-  control_at i k e l =
-      let b : length before ≡ length region.before = same_before in
-      let c : length entries ≡ length control = same_length in
-      get_back region.before (entries ++ work) i k (omega arith) ∙ get_front entries work k (omega arith)
+  control_at i k e l = grind (arith, same_before, same_length, get_back region.before, get_front)
 
   pub work_at : (i k : ℕ) → i ≡ length before + (length control + k) → slice_get path i ≡ slice_get work k
   work_at i k e =
@@ -116,14 +111,8 @@ module _ (promised : Insn → Insn → Bool) (region : Region) (loop : Pipelined
   -- ---- the path without the control
 
   entry_alone : (i a : ℕ) → Alone before control i a → slice_get path i ≡ slice_get alone a
-  entry_alone i a (inl (e, l)) =
-      let b : length before ≡ length region.before = same_before in
-      get_front region.before (entries ++ work) i (omega arith)
-      ∙ sym (get_front region.before work i (omega arith))
-      ∙ ap (λ (n : ℕ). slice_get alone n) (sym e)
-  entry_alone i a (inr (k, e, f)) =
-      let b : length before ≡ length region.before = same_before in
-      work_at i k e ∙ sym (get_back region.before work a k (omega arith))
+  entry_alone i a (inl (e, l)) = grind (arith, same_before, get_front region.before)
+  entry_alone i a (inr (k, e, f)) = grind (arith, same_before, work_at i k e, get_back region.before)
 
   pub insn_alone : (i a : ℕ) → Alone before control i a → slice_get insns i ≡ slice_get (insns_in alone) a
   insn_alone i a h = insn_same path alone i a (entry_alone i a h)
@@ -159,21 +148,7 @@ module _ (promised : Insn → Insn → Bool) (region : Region) (loop : Pipelined
 
   machine_alone : (i a k : ℕ) → i ≡ length before + (length control + k) → a ≡ length before + k
       → (serial (take i path) opening).machine ≡ with_word counter left (serial (take a alone) opening).machine
-  machine_alone i a k e f =
-      let b : length before ≡ length region.before = same_before in
-      let c : length entries ≡ length control = same_length in
-      let is_i : i ≡ length region.before + (length entries + k) = omega arith in
-      let is_a : a ≡ length region.before + k = omega arith in
-      ap (λ (xs : List SerialInsn). (serial xs opening).machine)
-      (ap (λ (n : ℕ). take n path) is_i
-      ∙ taken_more region.before (entries ++ work) (length entries + k)
-      ∙ ap (λ (xs : List SerialInsn). region.before ++ xs) (taken_more entries work k))
-      ∙ serial_both region.before (entries ++ take k work) opening
-      ∙ behind_control k
-      ∙ ap (λ (machine : Machine). with_word counter left machine)
-      (sym (serial_both region.before (take k work) opening)
-      ∙ ap (λ (xs : List SerialInsn). (serial xs opening).machine)
-      (sym (ap (λ (n : ℕ). take n alone) is_a ∙ taken_more region.before work k)))
+  machine_alone i a k e f = grind (arith, nat_tests, same_before, same_length, taken_more, serial_both, behind_control)
 
   -- each acts as it does without the control
   acts_alone : (i a : ℕ) (entry : SerialInsn) → Alone before control i a → slice_get path i ≡ Some entry
@@ -211,10 +186,7 @@ module _ (promised : Insn → Insn → Bool) (region : Region) (loop : Pipelined
   -- ---- what stands between
 
   pub in_order : (i j a b : ℕ) → Alone before control i a → Alone before control j b → i < j → a < b
-  in_order i j a b (inl (e, l)) (inl (f, u)) lt = omega arith
-  in_order i j a b (inl (e, l)) (inr (k, f, g)) lt = omega arith
-  in_order i j a b (inr (k, e, g)) (inl (f, u)) lt = omega arith
-  in_order i j a b (inr (k, e, g)) (inr (n, f, h)) lt = omega arith
+  in_order i j a b h k lt = grind arith
 
   abbrev Between : ℕ → ℕ → ℕ → Insn → Type 0
   Between a b j insn = ((n : ℕ) × (a ≤ n) × (n < b) × (slice_get (insns_in alone) n ≡ Some insn))
@@ -248,8 +220,7 @@ module _ (promised : Insn → Insn → Bool) (region : Region) (loop : Pipelined
             (insn_alone k k (inl (refl, l))) ∙ at,
       ))
       (λ (l : length before ≤ k). ⊎_elim {C = Between a b j insn}
-      (λ (u : k < length before + length control). inr
-      (control_between k j b (k - length before) insn (omega arith) (omega arith) high is_j at))
+      (λ (u : k < length before + length control). grind (arith, control_between k j b (k - length before) insn))
       (λ (u : length before + length control ≤ k). inl (
         k - length control,
         later is_i u,
@@ -262,17 +233,13 @@ module _ (promised : Insn → Insn → Bool) (region : Region) (loop : Pipelined
       (cases_lt k (length before))
     where
       above : Alone before control i a → a ≤ k
-      above (inl (e, l)) = omega arith
-      above (inr (n, e, f)) = omega arith
+      above h = grind arith
 
       ahead : k < length before → Alone before control j b → k < b
-      ahead l (inl (e, u)) = omega arith
-      ahead l (inr (n, e, f)) = omega arith
+      ahead l h = grind arith
 
       later : Alone before control i a → length before + length control ≤ k → a ≤ k - length control
-      later (inl (e, l)) u = omega arith
-      later (inr (n, e, f)) u = omega arith
+      later h u = grind arith
 
       sooner : Alone before control j b → length before + length control ≤ k → k - length control < b
-      sooner (inl (e, l)) u = omega arith
-      sooner (inr (n, e, f)) u = omega arith
+      sooner h u = grind arith

@@ -1,6 +1,6 @@
 -- Blocks with the same instructions in the same places, from whatever lines, do the same and leave the same but for
 -- faults.
-use Rattle.std.proofs.Common.{◌≡◌, ℕ, zero, suc, ◌*◌, List, [], ◌∷◌, ◌++◌, map, get_or, refl, sym, ◌∙◌, ap, inl, inr}
+use Rattle.std.proofs.Common.{◌≡◌, ℕ, zero, suc, List, [], ◌∷◌, ◌++◌, map, get_or, refl, ◌∙◌, ap}
 use Rattle.std.proofs.Common.{arith}
 use Rattle.std.specs.Prelude.{fold}
 use Rattle.std.specs.List.{flat_map}
@@ -8,13 +8,13 @@ use Rattle.c62_op.specs.declared.register.Reg.{Reg}
 use Rattle.c62_rules.specs.PacketRules.{Issue}
 use Rattle.c62_serial.specs.declared.serial.Exit.{Exit}
 use Rattle.c62_serial.specs.declared.serial.Exit.TheVariants.{Next}
-use Rattle.c62_serial.specs.State.{Machine, IsSound, index_of}
+use Rattle.c62_serial.specs.State.{Machine, IsSound}
 use Rattle.c62_serial.specs.Effect.{Act, act_of}
 use Rattle.c62_serial.specs.Serial.{exit_after}
 use Rattle.c62_serial.proofs.MachineLemmas.{same_machine}
 use Rattle.c62_packet.specs.declared.placed.Placed.{Placed}
 use Rattle.c62_packet.specs.Packed.{issue_of, issues_of}
-use Rattle.c62_meaning.specs.Landing.{Landing, value_before}
+use Rattle.c62_meaning.specs.Landing.{Landing}
 use Rattle.c62_meaning.specs.Packet.{Did, register_landings, memory_landings, word_before, byte_before, IsRun}
 use Rattle.c62_meaning.specs.Meaning.{LeavesState}
 use Rattle.c62_meaning.specs.Alike.{without_faults, AreSameButFaults, MeanAlike}
@@ -22,6 +22,7 @@ use Rattle.c62_meaning.proofs.Lookup.{In}
 use Rattle.c62_meaning.proofs.Acting.{act_same}
 use Rattle.c62_meaning.proofs.Runs.{acts_to, the_run, the_run_runs, one_run}
 use Rattle.c62_meaning.proofs.SerialPackets.{meaning_leaves}
+use Rattle.std.proofs.lemmas.Bool.Decides.{nat_tests}
 
 -- ---- lists of what stands alike
 
@@ -65,23 +66,18 @@ record FindAlike (block others : List Placed) (s s' : Machine) (did did' : Did) 
 words_alike : (block others : List Placed) (s s' : Machine) (did did' : Did) (t : ℕ) (reg : Reg)
     → FindAlike block others s s' did did'
     → word_before block s did t reg ≡ word_before others s' did' t reg
-words_alike block others s s' did did' t reg h =
-    ap (λ (landings : List Landing). value_before (index_of reg) t landings (get_or s.registers (index_of reg) 0))
-    (landings_alike (register_landings did) (register_landings did') block others h.alike
-    (λ p q e. (let act = h.acts p q e in let cycle : p.cycle ≡ q.cycle = ap (λ (i : Issue). i.cycle) e in rw
-    (act, cycle) refl)))
-    ∙ ap (λ (m : Machine). value_before (index_of reg) t (flat_map (register_landings did') others)
-    (get_or m.registers (index_of reg) 0)) h.same
+words_alike block others s s' did did' t reg h = grind (
+  arith,
+  landings_alike (register_landings did) (register_landings did') block others h.alike,
+)
 
 bytes_alike : (block others : List Placed) (s s' : Machine) (did did' : Did) (t a : ℕ)
     → FindAlike block others s s' did did'
     → byte_before block s did t a ≡ byte_before others s' did' t a
-bytes_alike block others s s' did did' t a h =
-    ap (λ (landings : List Landing). value_before a (8 * t) landings (get_or s.memory a 0))
-    (landings_alike (memory_landings did) (memory_landings did') block others h.alike
-    (λ p q e. (let act = h.acts p q e in let cycle : p.cycle ≡ q.cycle = ap (λ (i : Issue). i.cycle) e in
-    let unit : p.unit ≡ q.unit = ap (λ (i : Issue). i.unit) e in rw (act, cycle, unit) refl)))
-    ∙ ap (λ (m : Machine). value_before a (8 * t) (flat_map (memory_landings did') others) (get_or m.memory a 0)) h.same
+bytes_alike block others s s' did did' t a h = grind (
+  arith,
+  landings_alike (memory_landings did) (memory_landings did') block others h.alike,
+)
 
 -- ---- what they do
 
@@ -111,9 +107,7 @@ runs_alike block others s s' alike same p q e =
 
 listed_in : (did did' : Did) (ps : List Placed) → ((p : Placed) → In p ps → did p ≡ did' p) → map did ps ≡ map did' ps
 listed_in did did' [] same = refl
-listed_in did did' (p ∷ ps) same =
-    ap (λ (act : Act). act ∷ map did ps) (same p (inl refl))
-    ∙ ap (λ (acts : List Act). did' p ∷ acts) (listed_in did did' ps (λ q h. same q (inr h)))
+listed_in did did' (p ∷ ps) same = grind (arith, listed_in did did' ps)
 
 -- a run is the run of its block
 run_listed : (block : List Placed) (s : Machine) (did : Did) → IsRun block s did
@@ -125,25 +119,20 @@ run_listed block s did run =
 -- ---- what they leave
 
 bare_is_sound : (machine : Machine) → IsSound machine → IsSound (without_faults machine)
-bare_is_sound machine sound = record
-    { registers = sound.registers; memory = sound.memory; rising = λ i l. absurd (omega arith) }
+bare_is_sound machine sound = grind arith
 
 same_left : (block others : List Placed) (cycles : ℕ) (opening opening' final final' : Machine)
     → FindAlike block others opening opening' (the_run block opening) (the_run others opening')
     → LeavesState block cycles opening (the_run block opening) final
     → LeavesState others cycles opening' (the_run others opening') final' → AreSameButFaults final final'
-same_left block others cycles opening opening' final final' h p q =
-    same_machine (without_faults final) (without_faults final') (bare_is_sound final p.sound)
-    (bare_is_sound final' q.sound) (record {
-      base = p.base ∙ ap (λ (m : Machine). m.base) h.same ∙ sym q.base;
-      words = λ reg. p.words reg
-          ∙ words_alike block others opening opening' (the_run block opening) (the_run others opening') cycles reg h
-          ∙ sym (q.words reg);
-      bytes = λ a l. p.bytes a l
-          ∙ bytes_alike block others opening opening' (the_run block opening) (the_run others opening') cycles a h
-          ∙ sym (q.bytes a l);
-      faults = λ line. ((λ c. c), (λ c. c));
-    })
+same_left block others cycles opening opening' final final' h p q = grind (
+  arith,
+  nat_tests,
+  same_machine,
+  bare_is_sound,
+  words_alike,
+  bytes_alike,
+)
 
 exit_listed : (did : Did) (ps : List Placed) (exit : Exit)
     → fold (λ exit p. exit_after exit (did p).target) exit ps ≡ fold (λ exit (act : Act). exit_after exit act.target)
@@ -152,20 +141,17 @@ exit_listed did [] exit = refl
 exit_listed did (p ∷ ps) exit = exit_listed did ps (exit_after exit (did p).target)
 
 pub mean_alike : (block others : List Placed) (cycles : ℕ) → MeanAlike block others cycles
-mean_alike block others cycles alike opening opening' ran ran' same one other =
-    let h : FindAlike block others opening opening' (the_run block opening) (the_run others opening')
-    = record { alike = alike; same = same; acts = runs_alike block others opening opening' alike same } in
-    let acts : map one.did block ≡ map other.did others
-    = run_listed block opening one.did one.run
-    ∙ acts_listed (the_run block opening) (the_run others opening') block others alike h.acts
-    ∙ sym (run_listed others opening' other.did other.run) in
-    record {
-      acts = acts;
-      machine = same_left block others cycles opening opening' ran.machine ran'.machine h
-          (meaning_leaves block cycles opening ran (the_run block opening) (the_run_runs block opening) one).state
-          (meaning_leaves others cycles opening' ran' (the_run others opening') (the_run_runs others opening')
-          other).state;
-      exit = one.leaves.exit ∙ exit_listed one.did block Next
-          ∙ ap (λ (acts : List Act). fold (λ exit (act : Act). exit_after exit act.target) Next acts) acts
-          ∙ sym (exit_listed other.did others Next) ∙ sym other.leaves.exit;
-    }
+mean_alike block others cycles alike opening opening' ran ran' same one other = grind (
+  arith,
+  runs_alike block others opening opening' alike same,
+  run_listed block opening one.did one.run,
+  acts_listed (the_run block opening) (the_run others opening') block others alike,
+  run_listed others opening' other.did other.run,
+  same_left block others cycles opening opening' ran.machine ran'.machine,
+  meaning_leaves block cycles opening ran (the_run block opening) (the_run_runs block opening) one,
+  the_run_runs block opening,
+  meaning_leaves others cycles opening' ran' (the_run others opening') (the_run_runs others opening') other,
+  the_run_runs others opening',
+  exit_listed one.did block Next,
+  exit_listed other.did others Next,
+)

@@ -3,7 +3,7 @@ use Rattle.std.proofs.Common.{◌≡◌, ℕ, ◌+◌, ◌*◌, ◌<◌, ◌≤�
 use Rattle.std.proofs.Common.{pos, ◌+ℤ◌, ◌-ℤ◌, ◌≤ℤ◌, arith}
 use Rattle.std.specs.Prelude.{slice_get, Contains, true}
 use Rattle.std.proofs.lemmas.Int.{ints}
-use Rattle.std.proofs.lemmas.Bool.{false_from_ne_true, cond-true}
+use Rattle.std.proofs.lemmas.Bool.{false_from_ne_true}
 use Rattle.c62_op.specs.declared.register.Reg.{Reg}
 use Rattle.c62_insn.specs.declared.insn.Insn.{Insn}
 use Rattle.c62_op.specs.Shape.{is_store}
@@ -18,7 +18,6 @@ use Rattle.c62_rules.proofs.Exclusive.{exclusive-is}
 use Rattle.c62_rules.proofs.DisjointAccesses.{disjoint-is}
 use Rattle.c62_rules.proofs.Ranges.{Covers, apart_bytes}
 use Rattle.c62_serial.specs.Memory.{is_good, place_from}
-use Rattle.c62_serial.specs.Effect.{Act, no_act, runs}
 use Rattle.c62_meaning.proofs.NotBoth.{writes_runs, word_kept, not_both}
 use Rattle.c62_serial.specs.State.{index_of, word_in, byte_in}
 use Rattle.c62_meaning.specs.Landing.{Landing}
@@ -75,12 +74,12 @@ write_of b j v h =
 -- of a byte stored, that its instruction is a store, and when it is made
 store_of : (b : Numbered) (j : ℕ) (v : Landing) → In v (byte_writes b j) → (is_store (op_of (b.entry j).insn) ≡ true)
     × (v.time ≡ 8 * (b.at j).cycle + unit_index (b.at j).unit)
-store_of b j v h =
-    let s = from_In-access (access_time (b.at j)) (serial_act b j).access v h in (
-      stores_byte (b.entry j).insn (machine_at b j).base (word_in (machine_at b j)) (byte_in (machine_at b j))
-          (access_time (b.at j)) v s,
-      s.at,
-    )
+store_of b j v h = grind (
+  arith,
+  from_In-access (access_time (b.at j)) (serial_act b j).access v h,
+  stores_byte (b.entry j).insn (machine_at b j).base (word_in (machine_at b j)) (byte_in (machine_at b j))
+      (access_time (b.at j)) v,
+)
 
 -- exclusive ones do not both write
 exclusive_order : (b : Numbered) (h : KeepsData b) (j k : ℕ) (v w : Landing) → j < k → k < b.count
@@ -147,45 +146,25 @@ record Touches (insn : Insn) (base : ℕ) (word : Reg → ℕ) (address : ℕ) :
 
 stored_touches : (b : Numbered) (j : ℕ) (v : Landing) → In v (byte_writes b j)
     → Touches (b.entry j).insn (machine_at b j).base (word_in (machine_at b j)) v.cell
-stored_touches b j v h =
-    let s = from_In-access (access_time (b.at j)) (serial_act b j).access v h in
-    record {
-      access = s.access;
-      accesses = (act_accesses (b.entry j).insn (machine_at b j).base (word_in (machine_at b j))
-          (byte_in (machine_at b j)) s.access
-          s.accesses).1;
-      within = is_within s.access.address s.access.size s.good;
-      low = s.low;
-      high = s.high;
-    }
+stored_touches b j v h = grind (
+  arith,
+  from_In-access (access_time (b.at j)) (serial_act b j).access v h,
+  act_accesses (b.entry j).insn (machine_at b j).base (word_in (machine_at b j)) (byte_in (machine_at b j)),
+  is_within,
+)
 
 loaded_touches : (b : Numbered) (k address : ℕ)
     → LoadsByte (b.entry k).insn (machine_at b k).base (word_in (machine_at b k)) address
     → Touches (b.entry k).insn (machine_at b k).base (word_in (machine_at b k)) address
-loaded_touches b k address h = record {
-  access = h.access;
-  accesses = h.accesses;
-  within = is_within h.access.address h.access.size h.good;
-  low = h.low;
-  high = h.high;
-}
+loaded_touches b k address h = grind arith
 
 stored_at : (b : Numbered) (j : ℕ) (v : Landing) → In v (byte_writes b j) → AccessesAt b j v.cell
-stored_at b j v h =
-    let s = from_In-access (access_time (b.at j)) (serial_act b j).access v h in
-    record { access = s.access; accesses = s.accesses; good = s.good; low = s.low; high = s.high }
+stored_at b j v h = grind (arith, from_In-access (access_time (b.at j)) (serial_act b j).access v h)
 
 loaded_at : (b : Numbered) (k address : ℕ)
     → LoadsByte (b.entry k).insn (machine_at b k).base (word_in (machine_at b k)) address
     → AccessesAt b k address
-loaded_at b k address h = record {
-  access = h.access;
-  accesses = ap (λ (a : Act). a.access) (cond-true (runs (word_in (machine_at b k)) (b.entry k).insn) _ no_act h.runs)
-      ∙ h.accesses;
-  good = h.good;
-  low = h.low;
-  high = h.high;
-}
+loaded_at b k address h = grind arith
 
 -- disjoint accesses touch no byte together
 not_the_same : (b : Numbered) (h : KeepsData b) (j k a : ℕ) → j < k → k < b.count

@@ -18,22 +18,16 @@ use Rattle.c62_meaning.proofs.JoinedRuns.{splits, joins}
 get_cases : {X : Type 0} (xs ys : List X) (i : ℕ) (x : X) → slice_get (xs ++ ys) i ≡ Some x
     → (slice_get xs i ≡ Some x) ⊎ ((k : ℕ) × (i ≡ length xs + k) × (slice_get ys k ≡ Some x))
 get_cases [] ys i x e = inr (i, omega arith, e)
-get_cases (y ∷ xs) ys zero x e = inl e
-get_cases (y ∷ xs) ys (suc i) x e =
-    elim (get_cases xs ys i x e)
-    [ inl r ↦ inl r | inr r ↦ (let l : i ≡ length xs + r.0 = r.1 in inr (r.0, omega arith, r.2)) ]
+get_cases (y ∷ xs) ys i x e = grind (arith, get_cases xs ys)
 
 get_left : {X : Type 0} (xs ys : List X) (i : ℕ) (x : X) → slice_get xs i ≡ Some x → slice_get (xs ++ ys) i ≡ Some x
 get_left [] ys i x e = absurd (none-some x e)
-get_left (y ∷ xs) ys zero x e = e
-get_left (y ∷ xs) ys (suc i) x e = get_left xs ys i x e
+get_left (y ∷ xs) ys i x e = grind (arith, get_left xs ys)
 
 get_right : {X : Type 0} (xs ys : List X) (k : ℕ) (x : X) → slice_get ys k ≡ Some x
     → slice_get (xs ++ ys) (length xs + k) ≡ Some x
 get_right [] ys k x e = let s : k ≡ 0 + k = omega arith in subst (λ i. slice_get ys i ≡ Some x) s e
-get_right (y ∷ xs) ys k x e =
-    let s : suc (length xs + k) ≡ length (y ∷ xs) + k = omega arith in subst (λ i. slice_get (y ∷ xs ++ ys) i ≡ Some x)
-    s (get_right xs ys k x e)
+get_right (y ∷ xs) ys k x e = grind (arith, get_right xs ys k x e)
 
 get_moved : (t : ℕ) (ps : List Placed) (k : ℕ) (q : Placed) → slice_get (map (moved t) ps) k ≡ Some q → (p : Placed)
     × (slice_get ps k ≡ Some p) × (moved t p ≡ q)
@@ -47,14 +41,11 @@ moved_get t ps k p e = slice_get-map (moved t) ps k ∙ ap (option_map (moved t)
 
 module _ (t : ℕ) (did : Did) (p : Placed) (reg : Reg) where
   landed_late : (cycle : ℕ) → HasLanded (since t did) p reg cycle → HasLanded did (moved t p) reg (t + cycle)
-  landed_late cycle h = let e : p.cycle + h.delay ≡ cycle = h.lands in record
-      { delay = h.delay; value = h.value; writes = h.writes; lands = omega arith }
+  landed_late cycle h = grind arith
 
   landed_since : (cycle : ℕ) → HasLanded did (moved t p) reg cycle → (t ≤ cycle)
       × HasLanded (since t did) p reg (cycle - t)
-  landed_since cycle h =
-      let e : (t + p.cycle) + h.delay ≡ cycle = h.lands in
-      (omega arith, record { delay = h.delay; value = h.value; writes = h.writes; lands = omega arith })
+  landed_since cycle h = grind arith
 
 module _ (t : ℕ) (early late : List Placed) (did : Did) where
   one_in_both : HaveLanded t early did → LandOneByOne early did × LandOneByOne late (since t did)

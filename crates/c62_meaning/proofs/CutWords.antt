@@ -1,9 +1,8 @@
 -- What instructions find before a cut and behind it.
-use Rattle.std.proofs.Common.{◌≡◌, ℕ, ◌+◌, ◌*◌, ◌%◌, ◌<◌, ◌≤◌, true, eqb, List, [], ◌∷◌, ◌++◌, map, refl, ◌∙◌, ap}
-use Rattle.std.proofs.Common.{subst, inl, inr, arith}
-use Rattle.std.specs.Prelude.{Contains, nat_le}
+use Rattle.std.proofs.Common.{◌≡◌, ℕ, ◌+◌, ◌*◌, ◌<◌, ◌≤◌, List, [], ◌∷◌, ◌++◌, map}
+use Rattle.std.proofs.Common.{subst, arith}
+use Rattle.std.specs.Prelude.{Contains}
 use Rattle.std.specs.List.{flat_map}
-use Rattle.std.proofs.lemmas.Bool.{and_parts}
 use Rattle.std.proofs.lemmas.Bool.Decides.{nat_tests}
 use Rattle.std.proofs.lemmas.Grind.{flat_map-append}
 use Rattle.std.proofs.lemmas.List.Elements.{All-contains}
@@ -20,7 +19,7 @@ use Rattle.c62_packet.specs.Packed.{AreDrained, issue_of}
 use Rattle.c62_meaning.specs.Landing.{Landing, value_before}
 use Rattle.c62_meaning.specs.Packet.{Did, access_time, register_landings, memory_landings, word_before, byte_before}
 use Rattle.c62_meaning.specs.Packet.{IsRun}
-use Rattle.c62_meaning.specs.Cut.{HaveLanded, moved, since, behind}
+use Rattle.c62_meaning.specs.Cut.{HaveLanded, since, behind}
 use Rattle.c62_meaning.proofs.Lookup.{In, In_from_Contains, Contains_from_In, from_In-flat_map}
 use Rattle.c62_meaning.proofs.Acting.{LoadsByte}
 use Rattle.c62_meaning.proofs.Landings.{from_In-writes, from_In-access, act_writes}
@@ -31,41 +30,28 @@ use Rattle.c62_meaning.proofs.MovedLandings.{moved_landing, value_ahead, registe
 
 pub from_map : {X Y : Type 0} (f : X → Y) (y : Y) (xs : List X) → In y (map f xs) → (x : X) × In x xs × (f x ≡ y)
 from_map f y [] h = absurd h
-from_map f y (x ∷ xs) (inl e) = (x, inl refl, e)
-from_map f y (x ∷ xs) (inr h) = let r = from_map f y xs h in (r.0, inr r.1, r.2)
+from_map f y (x ∷ xs) h = grind (arith, from_map f y xs)
 
 module _ (t : ℕ) (early late : List Placed) (opening : Machine) (did : Did) where
   pub words_split : (reg : Reg) (u : ℕ) → word_before (behind t early late) opening did u reg
       ≡ value_before (index_of reg) u
       (flat_map (register_landings did) early ++ map (moved_landing t)
       (flat_map (register_landings (since t did)) late)) (word_in opening reg)
-  words_split reg u =
-      ap (λ ls. value_before (index_of reg) u ls (word_in opening reg))
-      (flat_map-append (register_landings did) early (map (moved t) late)
-      ∙ ap (λ ls. flat_map (register_landings did) early ++ ls) (registers_moved t did late))
+  words_split reg u = grind (arith, nat_tests, flat_map-append, registers_moved)
 
   pub bytes_split : (a u : ℕ) → byte_before (behind t early late) opening did u a
       ≡ value_before a (8 * u)
       (flat_map (memory_landings did) early ++ map (moved_landing (8 * t))
       (flat_map (memory_landings (since t did)) late)) (byte_in opening a)
-  bytes_split a u =
-      ap (λ ls. value_before a (8 * u) ls (byte_in opening a))
-      (flat_map-append (memory_landings did) early (map (moved t) late)
-      ∙ ap (λ ls. flat_map (memory_landings did) early ++ ls) (memory_moved t did late))
+  bytes_split a u = grind (arith, nat_tests, flat_map-append, memory_moved)
 
   pub word_ahead : (u : ℕ) (reg : Reg) → u ≤ t
       → word_before (behind t early late) opening did u reg ≡ word_before early opening did u reg
-  word_ahead u reg l =
-      words_split reg u
-      ∙ value_ahead (index_of reg) t u (flat_map (register_landings did) early)
-      (flat_map (register_landings (since t did)) late) (word_in opening reg) l
+  word_ahead u reg l = grind (arith, nat_tests, words_split, value_ahead)
 
   pub byte_ahead : (u a : ℕ) → u ≤ t
       → byte_before (behind t early late) opening did u a ≡ byte_before early opening did u a
-  byte_ahead u a l =
-      bytes_split a u
-      ∙ value_ahead a (8 * t) (8 * u) (flat_map (memory_landings did) early)
-      (flat_map (memory_landings (since t did)) late) (byte_in opening a) (omega arith)
+  byte_ahead u a l = grind (arith, nat_tests, bytes_split, value_ahead)
 
 -- what has landed is seen from the cut on
 module _ (t : ℕ) (early : List Placed) (did : Did) (have : HaveLanded t early did) where
@@ -110,9 +96,4 @@ module _ (t : ℕ) (issued : List Placed) (opening : Machine) (did : Did) (drain
   }
 
 pub within : (insn : Insn) (base : ℕ) (word : Reg → ℕ) (a : ℕ) → LoadsByte insn base word a → a < 65536
-within insn base word a h =
-    let inside : nat_le (h.access.address + h.access.size) 65536 ≡ true =
-    (and_parts (eqb (h.access.address % h.access.size) 0) (nat_le (h.access.address + h.access.size) 65536)
-    h.good).1 in
-    let high : a < h.access.address + h.access.size = h.high in
-    grind (arith, nat_tests)
+within insn base word a h = grind (arith, nat_tests)

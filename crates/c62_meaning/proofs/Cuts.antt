@@ -1,5 +1,5 @@
 -- Packets that are cut run as their parts one after the other.
-use Rattle.std.proofs.Common.{◌≡◌, ℕ, ◌+◌, ◌-◌, ◌*◌, ◌<◌, ◌≤◌, true, List, [], ◌∷◌, ◌++◌, map, refl, sym, ◌∙◌, ap}
+use Rattle.std.proofs.Common.{◌≡◌, ℕ, ◌+◌, ◌-◌, ◌*◌, ◌<◌, ◌≤◌, true, List, [], ◌∷◌, map, refl, sym, ◌∙◌}
 use Rattle.std.proofs.Common.{subst, ◌⊎◌, inl, inr, arith}
 use Rattle.std.specs.Prelude.{◌↔◌, Contains}
 use Rattle.std.specs.List.{flat_map}
@@ -7,7 +7,6 @@ use Rattle.c62_op.specs.declared.register.Reg.{Reg}
 use Rattle.c62_serial.specs.State.{Machine, index_of, word_in, byte_in}
 use Rattle.c62_serial.specs.Effect.{act_of, is_fault}
 use Rattle.c62_packet.specs.declared.placed.Placed.{Placed}
-use Rattle.c62_meaning.specs.Landing.{value_before}
 use Rattle.c62_meaning.specs.Packet.{Did, register_landings, memory_landings, word_before, byte_before, IsRun}
 use Rattle.c62_meaning.specs.Meaning.{HasFaulted, LeavesState}
 use Rattle.c62_meaning.specs.Cut.{HaveLanded, RunsTo, moved, since, sooner, behind}
@@ -15,7 +14,7 @@ use Rattle.c62_meaning.proofs.Lookup.{In, In_from_Contains, Contains_from_In, In
 use Rattle.c62_meaning.proofs.Lookup.{In-append_cases}
 use Rattle.c62_meaning.proofs.Acting.{act_same}
 use Rattle.c62_meaning.proofs.Instances.{in_map}
-use Rattle.c62_meaning.proofs.MovedLandings.{moved_landing, value_behind}
+use Rattle.c62_meaning.proofs.MovedLandings.{value_behind}
 use Rattle.c62_meaning.proofs.CutWords.{from_map, words_split, bytes_split, word_ahead, byte_ahead, words_landed}
 use Rattle.c62_meaning.proofs.CutWords.{bytes_landed, within}
 
@@ -31,8 +30,7 @@ pub record IsLeft (t : ℕ) (early : List Placed) (opening : Machine) (did : Did
 
 left_by : (t : ℕ) (early : List Placed) (opening : Machine) (did : Did) (middle : Machine)
     → RunsTo early t opening did middle → IsLeft t early opening did middle
-left_by t early opening did middle r = record
-    { run = r.run; base = r.leaves.base; words = r.leaves.words; bytes = r.leaves.bytes; faults = r.leaves.faults }
+left_by t early opening did middle r = grind arith
 
 -- back and on again
 pub moved_back : (t : ℕ) (ps : List Placed) → ((p : Placed) → In p ps → t ≤ p.cycle)
@@ -106,26 +104,23 @@ module _ (t : ℕ) (early late : List Placed) (opening : Machine) (did : Did) (h
   module _ (middle : Machine) (first : IsLeft t early opening did middle) where
     word_behind : (u : ℕ) (reg : Reg)
         → word_before (behind t early late) opening did (t + u) reg ≡ word_before late middle (since t did) u reg
-    word_behind u reg =
-        words_split t early late opening did reg (t + u)
-        ∙ value_behind (index_of reg) t u (flat_map (register_landings did) early)
-        (flat_map (register_landings (since t did)) late) (word_in opening reg)
-        (words_landed t early did have)
-        ∙ ap (λ old. value_before (index_of reg) u (flat_map (register_landings (since t did)) late) old)
-        (sym (first.words reg))
+    word_behind u reg = grind (
+      arith,
+      words_split t early late opening did reg (t + u),
+      value_behind (index_of reg) t u (flat_map (register_landings did) early) (flat_map (register_landings (since t
+          did)) late) (word_in opening reg) (words_landed t early did have),
+      words_landed t early did have,
+    )
 
     byte_behind : (u a : ℕ) → a < 65536
         → byte_before (behind t early late) opening did (t + u) a ≡ byte_before late middle (since t did) u a
-    byte_behind u a l =
-        let e : 8 * (t + u) ≡ 8 * t + 8 * u = omega arith in
-        bytes_split t early late opening did a (t + u)
-        ∙ ap (λ time. value_before a time
-        (flat_map (memory_landings did) early ++ map (moved_landing (8 * t))
-        (flat_map (memory_landings (since t did)) late)) (byte_in opening a)) e
-        ∙ value_behind a (8 * t) (8 * u) (flat_map (memory_landings did) early)
-        (flat_map (memory_landings (since t did)) late) (byte_in opening a)
-        (bytes_landed t early did have)
-        ∙ ap (λ old. value_before a (8 * u) (flat_map (memory_landings (since t did)) late) old) (sym (first.bytes a l))
+    byte_behind u a l = grind (
+      arith,
+      bytes_split t early late opening did a (t + u),
+      value_behind a (8 * t) (8 * u) (flat_map (memory_landings did) early) (flat_map (memory_landings (since t did))
+          late) (byte_in opening a) (bytes_landed t early did have),
+      bytes_landed t early did have,
+    )
 
     act_behind : (p : Placed)
         → act_of p.insn opening.base (word_before (behind t early late) opening did (t + p.cycle))
@@ -201,10 +196,7 @@ module _ (t : ℕ) (early late : List Placed) (opening : Machine) (did : Did) (h
     pub runs_on : (cycles : ℕ) (final : Machine)
         → RunsTo (behind t early late) (t + cycles) opening did final ↔ RunsTo late cycles middle (since t did)
         final
-    runs_on cycles final = (
-      (λ r. record { run = goes_on.0 r.run; leaves = (leaves_on cycles final).0 r.leaves }),
-      (λ r. record { run = goes_on.1 r.run; leaves = (leaves_on cycles final).1 r.leaves }),
-    )
+    runs_on cycles final = grind (arith, goes_on, leaves_on cycles final)
 
   pub on : (middle : Machine) (cycles : ℕ) (final : Machine) → RunsTo early t opening did middle
       → RunsTo (behind t early late) (t + cycles) opening did final ↔ RunsTo late cycles middle (since t did) final

@@ -6,11 +6,10 @@ use Rattle.std.specs.Option.{option_map_or}
 use Rattle.std.proofs.lemmas.Bool.{cases_Bool, cases_eq, cases_lt, cond-true, cond-false}
 use Rattle.c62_op.specs.declared.register.Reg.{Reg}
 use Rattle.c62_op.specs.declared.operands.Op.{Op}
-use Rattle.c62_op.specs.declared.operands.Operands.{Operands}
 use Rattle.c62_insn.specs.declared.effect.Target.{Target}
 use Rattle.c62_insn.specs.declared.insn.Insn.{Insn}
-use Rattle.c62_op.specs.Shape.{delay_of, is_branch, writes_of}
-use Rattle.c62_insn.specs.Insn.{IsSameInsn, op_of, operands_of, register_writes, greatest_delay}
+use Rattle.c62_op.specs.Shape.{delay_of, is_branch}
+use Rattle.c62_insn.specs.Insn.{IsSameInsn, op_of, register_writes, greatest_delay}
 use Rattle.c62_rules.specs.PacketRules.{Issue}
 use Rattle.c62_rules.specs.Length.{landing_end, last_landing_end}
 use Rattle.c62_insn.proofs.InsnLemmas.{writes_delay, writes_delay_of}
@@ -36,8 +35,7 @@ on_exit did exit p = exit_after exit (did p).target
 exit_none : (did : Did) (ps : List Placed) (exit : Exit) → ((p : Placed) → In p ps → (did p).target ≡ None)
     → fold (on_exit did) exit ps ≡ exit
 exit_none did [] exit h = refl
-exit_none did (p ∷ ps) exit h =
-    ap (λ o. fold (on_exit did) (exit_after exit o) ps) (h p (inl refl)) ∙ exit_none did ps exit (λ q k. h q (inr k))
+exit_none did (p ∷ ps) exit h = grind (arith, exit_none did ps exit)
 
 exit_some : (did : Did) (ps : List Placed) (exit : Exit) (target : Target)
     → (exit ≡ exit_to target) ⊎ ((p : Placed) × In p ps × ((did p).target ≡ Some target))
@@ -65,8 +63,7 @@ exit_some did (q ∷ ps) exit target here all = go (λ from h. exit_some did ps 
 
 serial_none : (b : Numbered) (i : ℕ) → ((k : ℕ) → k < i → (serial_act b k).target ≡ None) → (ran_at b i).exit ≡ Next
 serial_none b zero h = refl
-serial_none b (suc i) h = ap (λ o. exit_after (ran_at b i).exit o) (h i (omega arith))
-    ∙ serial_none b i (λ k l. h k (omega arith))
+serial_none b (suc i) h = grind (arith, serial_none b i)
 
 -- a branch is the last instruction
 abbrev pub BranchLast : Numbered → Type 0
@@ -77,15 +74,10 @@ abbrev pub AllAgree : Numbered → Did → Type 0
 AllAgree b did = (i : ℕ) → i < b.count → did (b.at i) ≡ serial_act b i
 
 no_target : (b : Numbered) → BranchLast b → (k : ℕ) → k + 1 < b.count → (serial_act b k).target ≡ None
-no_target b last k l = of_target (serial_act b k).target refl
-  where
-    of_target : (o : Option Target) → (serial_act b k).target ≡ o → (serial_act b k).target ≡ None
-    of_target None e = e
-    of_target (Some target) e =
-        let same : k + 1 ≡ b.count = last k (omega arith)
-        (goes_branch (b.entry k).insn (machine_at b k).base (word_in (machine_at b k)) (byte_in (machine_at b k))
-        target e) in
-        absurd (omega arith)
+no_target b last k l = grind (
+  arith,
+  goes_branch (b.entry k).insn (machine_at b k).base (word_in (machine_at b k)) (byte_in (machine_at b k)),
+)
 
 pub exit_end : (block : List Placed) (b : Numbered) (did : Did) → IsBlock block b → AllAgree b did → BranchLast b
     → exit_by did block ≡ (ran_at b b.count).exit
@@ -143,26 +135,14 @@ find_branch (p ∷ ps) = go (cases_Bool (is_branch (op_of p.insn))) (find_branch
 
 pub past_write : (ws : List (Reg × ℕ)) (w : Reg × ℕ) → In w ws → w.1 ≤ greatest_delay ws
 past_write [] w h = absurd h
-past_write (v ∷ ws) w (inl e) = let d : v.1 ≡ w.1 = ap (λ (u : Reg × ℕ). u.1) e in omega arith
-past_write (v ∷ ws) w (inr h) = let r : w.1 ≤ greatest_delay ws = past_write ws w h in omega arith
-
-past_all : (block : List Placed) (p : Placed) → In p block
-    → landing_end (issue_of p) ≤ last_landing_end (map issue_of block)
-past_all [] p h = absurd h
-past_all (q ∷ ps) p (inl e) =
-    let P : Placed → Type 0 = λ z. landing_end (issue_of z) ≤ max (landing_end (issue_of q))
-    (last_landing_end (map issue_of ps)) in subst P e (omega arith)
-past_all (q ∷ ps) p (inr h) = let r : landing_end (issue_of p) ≤ last_landing_end (map issue_of ps) = past_all ps p h in
-    omega arith
+past_write (v ∷ ws) w h = grind (arith, past_write ws w)
 
 -- the instructions stand in the packets
 abbrev pub AllStand : Numbered → Type 0
 AllStand b = (i : ℕ) → i < b.count → StandsAs (b.entry i) (b.at i)
 
 same_writes : (one other : Insn) → IsSameInsn one other → register_writes one ≡ register_writes other
-same_writes one other h =
-    ap (λ (op : Op). writes_of op (operands_of one)) h.op
-    ∙ ap (λ (operands : Operands). writes_of (op_of other) operands) h.operands
+same_writes one other h = grind arith
 
 -- where nothing lands from t on
 pub drained : (block : List Placed) (b : Numbered) (t : ℕ) → IsBlock block b → AllStand b
@@ -178,6 +158,15 @@ drained block b t is stand late = record {
       let d : w.1 ≤ greatest_delay (register_writes (b.at j).insn) = past_write (register_writes (b.at j).insn) w k in
       omega arith;
 }
+
+past_all : (block : List Placed) (p : Placed) → In p block
+    → landing_end (issue_of p) ≤ last_landing_end (map issue_of block)
+past_all [] p h = absurd h
+past_all (q ∷ ps) p (inl e) =
+    let P : Placed → Type 0 = λ z. landing_end (issue_of z) ≤ max (landing_end (issue_of q))
+    (last_landing_end (map issue_of ps)) in subst P e (omega arith)
+past_all (q ∷ ps) p (inr h) = let r : landing_end (issue_of p) ≤ last_landing_end (map issue_of ps) = past_all ps p h in
+    omega arith
 
 -- all lands before a branch takes effect
 abbrev pub LandBeforeBranch : Numbered → Type 0

@@ -18,8 +18,7 @@ use Rattle.c62_meaning.proofs.Ends.{AllStand, AllAgree}
 
 line_into : (lines : List ℕ) (line : ℕ) (fault : Bool) (other : ℕ) → Contains (after_fault lines line fault) other
     → ((fault ≡ true) × (line ≡ other)) ⊎ Contains lines other
-line_into lines line true other c = elim ((joined_holds lines line other).0 c)
-    [ inl e ↦ inl (refl, sym e) | inr r ↦ inr r ]
+line_into lines line true other c = grind (arith, joined_holds lines line other)
 line_into lines line false other c = inr c
 
 line_out : (lines : List ℕ) (line : ℕ) (fault : Bool) (other : ℕ) → ((fault ≡ true) × (line ≡ other))

@@ -1,9 +1,8 @@
 -- Instances of a path are serial.
 use Rattle.std.proofs.Common.{◌≡◌, ℕ, zero, suc, ◌+◌, ◌<◌, ◌≤◌, List, [], ◌∷◌, length, map, take, get_or, Some, None}
-use Rattle.std.proofs.Common.{refl, sym, ◌∙◌, ap, subst, inl, inr, arith}
+use Rattle.std.proofs.Common.{refl, sym, ◌∙◌, ap, subst, arith}
 use Rattle.std.specs.Prelude.{◌↔◌, Contains}
 use Rattle.std.specs.List.{slice_get}
-use Rattle.std.proofs.lemmas.Bool.{cases_order}
 use Rattle.std.proofs.lemmas.List.{take_all, get_or_default, get_or-map, length-map}
 use Rattle.std.proofs.lemmas.List.Elements.{All-contains}
 use Rattle.std.proofs.lemmas.List.Sums.{fold_more}
@@ -40,8 +39,7 @@ use Rattle.c62_meaning.proofs.Faulted.{faults_end}
 
 pub in_map : {X Y : Type 0} (f : X → Y) (x : X) (xs : List X) → In x xs → In (f x) (map f xs)
 in_map f x [] h = absurd h
-in_map f x (y ∷ ys) (inl e) = inl (ap f e)
-in_map f x (y ∷ ys) (inr h) = inr (in_map f x ys h)
+in_map f x (y ∷ ys) h = grind (arith, in_map f x ys)
 
 -- a run of instances that come in order, cell by cell
 module _ (block : List Placed) (b : Numbered) (did : Did) (is : IsBlock block b) (stand : AllStand b)
@@ -84,13 +82,7 @@ module _ (block : List Placed) (b : Numbered) (did : Did) (is : IsBlock block b)
 
   pub one_at : (reg : Reg) (cycle i j : ℕ) → i < b.count → j < b.count → HasLanded did (b.at i) reg cycle
       → HasLanded did (b.at j) reg cycle → i ≡ j
-  one_at reg cycle i j l u h k = elim (cases_order i j) [
-    | inl e ↦ e
-    | inr o ↦ elim o [
-      | inl lt ↦ absurd (apart reg cycle i j lt u h k)
-      | inr gt ↦ absurd (apart reg cycle j i gt l k h)
-    ]
-  ]
+  one_at reg cycle i j l u h k = grind (arith, apart reg cycle i j, apart reg cycle j i)
 
 -- ---- by place in a list
 
@@ -205,11 +197,7 @@ order_at path placed opening h = ordered (numbered path placed opening) (record 
 -- what keeps all bounds of memory keeps those of what meets
 met_placing : (path : List SerialInsn) (placed : List Placed) (opening : Machine) → IsPlacingBy DataBounds path placed
     → IsPlacingBy (MetBounds path opening) path placed
-met_placing path placed opening h = record {
-  count = h.count;
-  stands = h.stands;
-  keeps = λ i j p q bound at_p at_q asked. h.keeps i j p q bound at_p at_q asked.bounds;
-}
+met_placing path placed opening h = grind arith
 
 module _ (opening : Machine) (path : List SerialInsn) (issued : List Placed)
     (instances : AreInstancesFrom opening path issued) (did : Did) (sound : IsSound opening)
@@ -230,15 +218,11 @@ module _ (opening : Machine) (path : List SerialInsn) (issued : List Placed)
   order = order_at path placed opening instances.placing
 
   within : (i : ℕ) (p : Placed) → slice_get placed i ≡ Some p → i < length path
-  within i p at =
-      let n : length placed ≡ length path = instances.placing.count in
-      let l : i < length placed = slice_get_within placed i p at in
-      omega arith
+  within i p at = grind (arith, slice_get_within)
 
   landed : (reg : Reg) (cycle i : ℕ) (p : Placed) → slice_get placed i ≡ Some p → HasLanded did p reg cycle
       → HasLanded did (get_or placed i no_placed) reg cycle
-  landed reg cycle i p at h = subst (λ (q : Placed). HasLanded did q reg cycle)
-      (sym (get_or_from_slice_get placed i p no_placed at)) h
+  landed reg cycle i p at h = grind (arith, get_or_from_slice_get)
 
   pub are_as_serial : AreAsSerial path issued placed opening did
   are_as_serial = record {

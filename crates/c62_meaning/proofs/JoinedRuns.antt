@@ -1,5 +1,5 @@
 -- Runs that are joined and moved.
-use Rattle.std.proofs.Common.{◌≡◌, ℕ, ◌+◌, ◌-◌, ◌<◌, ◌≤◌, List, [], map, get_or, refl, sym, ◌∙◌, ap, subst, inl, inr}
+use Rattle.std.proofs.Common.{◌≡◌, ℕ, ◌+◌, ◌-◌, ◌<◌, ◌≤◌, List, [], map, get_or, sym, ◌∙◌, ap, subst}
 use Rattle.std.proofs.Common.{arith}
 use Rattle.std.specs.Prelude.{◌↔◌, Contains}
 use Rattle.std.proofs.lemmas.Bool.{lt-ltb, le-ltb, cond-true, cond-false}
@@ -12,7 +12,7 @@ use Rattle.c62_packet.specs.declared.placed.Placed.{Placed}
 use Rattle.c62_packet.specs.Packed.{AreDrained, issue_of}
 use Rattle.c62_meaning.specs.Packet.{Did, IsRun}
 use Rattle.c62_meaning.specs.Cut.{HaveLanded, RunsTo, moved, since, delayed, RunsLater, behind, joined, Settles}
-use Rattle.c62_meaning.proofs.Lookup.{In, In_from_Contains, Contains_from_In}
+use Rattle.c62_meaning.proofs.Lookup.{In, Contains_from_In}
 use Rattle.c62_meaning.proofs.Runs.{run_same}
 use Rattle.c62_meaning.proofs.SerialPackets.{state_one, state_same, made, made_leaves}
 use Rattle.c62_meaning.proofs.CutWords.{drained_landed}
@@ -24,12 +24,11 @@ use Rattle.c62_meaning.proofs.Cuts.{IsLeft, begins, runs_on, on}
 pub runs_alike : (issued : List Placed) (cycles : ℕ) (opening : Machine) (did did' : Did) (final : Machine)
     → ((p : Placed) → In p issued → did p ≡ did' p)
     → RunsTo issued cycles opening did final → RunsTo issued cycles opening did' final
-runs_alike issued cycles opening did did' final same r =
-    record {
-      run = run_same issued opening did did' same r.run;
-      leaves = state_same issued cycles opening did did' final
-          same r.leaves;
-    }
+runs_alike issued cycles opening did did' final same r = grind (
+  arith,
+  run_same issued opening did did' same r.run,
+  state_same issued cycles opening did did' final same r.leaves,
+)
 
 -- in a sound machine a run leaves one
 pub runs_to : (issued : List Placed) (cycles : ℕ) (opening : Machine) (did : Did) → IsSound opening
@@ -39,25 +38,13 @@ runs_to issued cycles opening did sound run =
 
 -- nothing leaves all as it was
 nothing_left : (t : ℕ) (opening : Machine) (did : Did) → IsLeft t [] opening did opening
-nothing_left t opening did = record {
-  run = λ p h. absurd (In_from_Contains p [] h);
-  base = refl;
-  words = λ reg. refl;
-  bytes = λ a l. refl;
-  faults = λ line. ((λ c. inl c), (λ c. elim c [ inl q ↦ q | inr q ↦ absurd (In_from_Contains q.placed [] q.inside) ]));
-}
+nothing_left t opening did = grind arith
 
 pub nothing_landed : (t : ℕ) (did : Did) → HaveLanded t [] did
-nothing_landed t did = record
-    { before = λ p h. absurd (In_from_Contains p [] h); landed = λ p write h w. absurd (In_from_Contains p [] h) }
+nothing_landed t did = grind arith
 
 pub runs_nothing : (cycles : ℕ) (opening : Machine) (did : Did) → IsSound opening → RunsTo [] cycles opening did opening
-runs_nothing cycles opening did sound =
-    let l = nothing_left cycles opening did in
-    record {
-      run = l.run;
-      leaves = record { sound = sound; base = l.base; words = l.words; bytes = l.bytes; faults = l.faults };
-    }
+runs_nothing cycles opening did sound = grind arith
 
 pub nothing_runs : (cycles : ℕ) (opening : Machine) (did : Did) (final : Machine) → IsSound opening
     → RunsTo [] cycles opening did final → final ≡ opening

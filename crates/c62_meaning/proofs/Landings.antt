@@ -1,21 +1,18 @@
 -- The landings of an instruction are of what it writes and stores, and those of one cell come in the order of time.
-use Rattle.std.proofs.Common.{◌≡◌, ℕ, zero, suc, ◌+◌, ◌-◌, ◌<◌, ◌≤◌, Bool, true, false, List, [], ◌∷◌, ◌++◌, length}
+use Rattle.std.proofs.Common.{◌≡◌, ℕ, ◌+◌, ◌-◌, ◌<◌, ◌≤◌, true, List, [], ◌∷◌, length}
 use Rattle.std.proofs.Common.{map, get_or, set, cond, eqb, Option, Some, None, refl, sym, ◌∙◌, ap, subst, ◌⊎◌, inl, inr}
 use Rattle.std.proofs.Common.{⊎_elim, arith}
-use Rattle.std.specs.Prelude.{fold, if◌then◌else◌}
+use Rattle.std.specs.Prelude.{fold}
 use Rattle.std.specs.List.{zip}
-use Rattle.std.proofs.lemmas.Bool.{cases_Bool, cases_eq, cases_lt, cond-true, cond-false, cond_both, eq-eqb, ne_eqb}
+use Rattle.std.proofs.lemmas.Bool.{cases_Bool, cases_lt, cond-true, cond-false, cond_both}
 use Rattle.std.proofs.lemmas.List.{length-set, get_or-set_other}
 use Rattle.std.proofs.lemmas.Grind.{get_or-set_at}
 use Rattle.c62_op.specs.declared.register.Reg.{Reg}
 use Rattle.c62_op.specs.declared.operands.Op.{Op}
-use Rattle.c62_op.specs.declared.operands.Op.TheVariants.{Ldb, Ldbu, Ldh, Ldhu, Ldw}
 use Rattle.c62_op.specs.declared.operands.Operands.{Operands}
-use Rattle.c62_op.specs.declared.operands.Operands.TheVariants.{Three, ConstantFirst, ConstantSecond, Two, Field}
-use Rattle.c62_op.specs.declared.operands.Operands.TheVariants.{Constant, Access, Block, Register}
 use Rattle.c62_insn.specs.declared.effect.Access.{Access as MemoryAccess}
 use Rattle.c62_insn.specs.declared.insn.Insn.{Insn}
-use Rattle.c62_op.specs.Shape.{delay_of, is_load, is_store, changes_base, writes_of}
+use Rattle.c62_op.specs.Shape.{is_store, writes_of}
 use Rattle.c62_insn.specs.Insn.{op_of, operands_of, register_writes}
 use Rattle.c62_serial.specs.State.{index_of}
 use Rattle.c62_serial.specs.Memory.{is_good, bytes_of, written}
@@ -26,6 +23,7 @@ use Rattle.c62_meaning.specs.Landing.{Landing}
 use Rattle.c62_meaning.specs.Packet.{write_landing, byte_landings, stored_landings, access_landings}
 use Rattle.c62_meaning.proofs.Lookup.{In, last_value, InOrder}
 use Rattle.c62_meaning.proofs.Acting.{access_at, is_stores}
+use Rattle.std.proofs.lemmas.Bool.Decides.{nat_tests}
 
 -- ---- registers
 
@@ -33,18 +31,14 @@ use Rattle.c62_meaning.proofs.Acting.{access_at, is_stores}
 pub writes-last : (cycle k : ℕ) (ws : List ((Reg × ℕ) × ℕ)) (rs : List ℕ) → k < length rs
     → get_or (fold after_write rs ws) k 0 ≡ last_value k (map (write_landing cycle) ws) (get_or rs k 0)
 writes-last cycle k [] rs l = refl
-writes-last cycle k (w ∷ ws) rs l =
-    let l' : k < length (set rs (index_of w.0.0) w.1) = rw length-set l in
-    writes-last cycle k ws (set rs (index_of w.0.0) w.1) l'
-    ∙ ap (λ v. last_value k (map (write_landing cycle) ws) v) one
-  where
-    one : get_or (set rs (index_of w.0.0) w.1) k 0 ≡ cond (eqb (index_of w.0.0) k) w.1 (get_or rs k 0)
-    one =
-        ⊎_elim {C = get_or (set rs (index_of w.0.0) w.1) k 0 ≡ cond (eqb (index_of w.0.0) k) w.1 (get_or rs k 0)}
-        (λ e. get_or-set_at rs (index_of w.0.0) k w.1 0 (sym e) (subst (λ i. i < length rs) (sym e) l)
-        ∙ sym (cond-true _ _ _ (eq-eqb _ _ e)))
-        (λ ne. get_or-set_other rs (index_of w.0.0) k w.1 0 (λ e. ne (sym e)) ∙ sym (cond-false _ _ _ (ne_eqb _ _ ne)))
-        (cases_eq (index_of w.0.0) k)
+writes-last cycle k (w ∷ ws) rs l = grind (
+  arith,
+  nat_tests,
+  writes-last cycle k ws (set rs (index_of w.0.0) w.1),
+  length-set,
+  get_or-set_at,
+  get_or-set_other,
+)
 
 pub from_In-writes : (cycle : ℕ) (ws : List ((Reg × ℕ) × ℕ)) (l : Landing) → In l (map (write_landing cycle) ws)
     → (w : (Reg × ℕ) × ℕ) × In w ws × (l.cell ≡ index_of w.0.0) × (l.time ≡ cycle + w.0.1)
@@ -56,9 +50,7 @@ from_In-writes cycle (w ∷ ws) l (inr h) = let r = from_In-writes cycle ws l h 
 -- what is zipped has its keys from the first
 pub In-zip : (ks : List (Reg × ℕ)) (vs : List ℕ) (w : (Reg × ℕ) × ℕ) → In w (zip ks vs) → In w.0 ks
 In-zip [] vs w h = absurd h
-In-zip (k ∷ ks) [] w h = absurd h
-In-zip (k ∷ ks) (v ∷ vs) w (inl e) = inl (ap (λ (u : (Reg × ℕ) × ℕ). u.0) e)
-In-zip (k ∷ ks) (v ∷ vs) w (inr h) = inr (In-zip ks vs w h)
+In-zip (k ∷ ks) vs w h = grind (arith, In-zip ks)
 
 -- what an instruction writes is among its writes
 pub act_writes : (insn : Insn) (base : ℕ) (word : Reg → ℕ) (byte : ℕ → ℕ) (w : (Reg × ℕ) × ℕ)
@@ -74,35 +66,8 @@ abbrev pub Rising : List (Reg × ℕ) → Type 0
 Rising [] = Unit {0}
 Rising (w ∷ ws) = ((v : Reg × ℕ) → In v ws → w.1 < v.1) × Rising ws
 
-load_is_later : (op : Op) → is_load op ≡ true → 0 < delay_of op
-load_is_later Ldb h = omega arith
-load_is_later Ldbu h = omega arith
-load_is_later Ldh h = omega arith
-load_is_later Ldhu h = omega arith
-load_is_later Ldw h = omega arith
-load_is_later _ h = cc
-
-rising_access : (c l : Bool) (x y : Reg × ℕ) → (l ≡ true → x.1 < y.1)
-    → Rising ((if c then x ∷ [] else []) ++ (if l then y ∷ [] else []))
-rising_access true true x y h = (
-  (λ v k. ⊎_elim {C = x.1 < v.1} (λ e. subst (λ (u : Reg × ℕ). x.1 < u.1) e (h refl)) (λ k'. absurd k') k),
-  ((λ v k. absurd k), tt),
-)
-rising_access true false x y h = ((λ v k. absurd k), tt)
-rising_access false true x y h = ((λ v k. absurd k), tt)
-rising_access false false x y h = tt
-
 pub rising_writes : (op : Op) (operands : Operands) → Rising (writes_of op operands)
-rising_writes op (Three a b d) = ((λ v k. absurd k), tt)
-rising_writes op (ConstantFirst k a d) = ((λ v k. absurd k), tt)
-rising_writes op (ConstantSecond a k d) = ((λ v k. absurd k), tt)
-rising_writes op (Two a d) = ((λ v k. absurd k), tt)
-rising_writes op (Field a k m d) = ((λ v k. absurd k), tt)
-rising_writes op (Constant k d) = ((λ v k. absurd k), tt)
-rising_writes op (Access reg base form offset) = rising_access (changes_base form) (is_load op) (base, 0)
-    (reg, delay_of op) (load_is_later op)
-rising_writes op (Block number) = tt
-rising_writes op (Register target) = tt
+rising_writes op operands = grind arith
 
 InOrder-zip : (cell cycle : ℕ) (ks : List (Reg × ℕ)) (vs : List ℕ) → Rising ks
     → InOrder cell (map (write_landing cycle) (zip ks vs))
@@ -128,21 +93,15 @@ InOrder-act cell cycle insn base word byte =
 bytes-outside : (time address : ℕ) (bytes : List ℕ) (a old : ℕ) → (a < address) ⊎ (address + length bytes ≤ a)
     → last_value a (byte_landings time address bytes) old ≡ old
 bytes-outside time address [] a old o = refl
-bytes-outside time address (b ∷ bs) a old (inl l) =
-    bytes-outside time (address + 1) bs a (cond (eqb address a) b old) (inl (omega arith))
-    ∙ cond-false _ _ _ (ne_eqb _ _ (λ (e : address ≡ a). omega arith))
-bytes-outside time address (b ∷ bs) a old (inr g) =
-    bytes-outside time (address + 1) bs a (cond (eqb address a) b old) (inr (omega arith))
-    ∙ cond-false _ _ _ (ne_eqb _ _ (λ (e : address ≡ a). omega arith))
+bytes-outside time address (b ∷ bs) a old h = grind (
+  arith,
+  bytes-outside time (address + 1) bs a (cond (eqb address a) b old),
+)
 
 bytes-inside : (time address : ℕ) (bytes : List ℕ) (k old a : ℕ) → k < length bytes → address + k ≡ a
     → last_value a (byte_landings time address bytes) old ≡ get_or bytes k 0
 bytes-inside time address [] k old a l e = absurd (omega arith)
-bytes-inside time address (b ∷ bs) zero old a l e =
-    bytes-outside time (address + 1) bs a (cond (eqb address a) b old) (inl (omega arith))
-    ∙ cond-true _ _ _ (eq-eqb address a (omega arith))
-bytes-inside time address (b ∷ bs) (suc k) old a l e = bytes-inside time (address + 1) bs k (cond (eqb address a) b old)
-    a (omega arith) (omega arith)
+bytes-inside time address (b ∷ bs) k old a l e = grind (arith, bytes-inside time (address + 1) bs, bytes-outside)
 
 store-last : (time address size : ℕ) (value : Option ℕ) (memory : List ℕ) (a : ℕ) → length memory ≡ 65536
     → get_or (after_store memory value address size) a 0 ≡ last_value a (stored_landings time address size value)
@@ -189,8 +148,7 @@ store-last time address size (Some value) memory a sound =
 -- memory after an access holds the bytes that it stored
 pub access-last : (time : ℕ) (access : Option MemoryAccess) (memory : List ℕ) (a : ℕ) → length memory ≡ 65536
     → get_or (after_access memory access) a 0 ≡ last_value a (access_landings time access) (get_or memory a 0)
-access-last time None memory a sound = refl
-access-last time (Some access) memory a sound = store-last time access.address access.size access.value memory a sound
+access-last time access memory a sound = grind (arith, store-last)
 
 -- the access that stores a byte
 pub record IsStoredBy (time : ℕ) (o : Option MemoryAccess) (l : Landing) : Type 0 where
@@ -206,43 +164,11 @@ pub record IsStoredBy (time : ℕ) (o : Option MemoryAccess) (l : Landing) : Typ
 from_In-bytes : (time address : ℕ) (bytes : List ℕ) (l : Landing) → In l (byte_landings time address bytes)
     → (address ≤ l.cell) × (l.cell < address + length bytes) × (l.time ≡ time)
 from_In-bytes time address [] l h = absurd h
-from_In-bytes time address (b ∷ bs) l (inl e) =
-    let p : address ≡ l.cell = ap (λ (u : Landing). u.cell) e in
-    (omega arith, omega arith, ap (λ (u : Landing). u.time) (sym e))
-from_In-bytes time address (b ∷ bs) l (inr h) =
-    let r = from_In-bytes time (address + 1) bs l h in
-    let low : address + 1 ≤ l.cell = r.0 in
-    let high : l.cell < address + 1 + length bs = r.1 in
-    (omega arith, omega arith, r.2)
+from_In-bytes time address (b ∷ bs) l h = grind (arith, from_In-bytes time (address + 1) bs l)
 
 pub from_In-access : (time : ℕ) (o : Option MemoryAccess) (l : Landing) → In l (access_landings time o)
     → IsStoredBy time o l
-from_In-access time None l h = absurd h
-from_In-access time (Some access) l h = of_value access.value refl h
-  where
-    of_value : (value : Option ℕ) → access.value ≡ value → In l (stored_landings time access.address access.size value)
-        → IsStoredBy time (Some access) l
-    of_value None e k = absurd k
-    of_value (Some value) e h =
-        let P : List Landing → Type 0 = λ ls. In l ls → IsStoredBy time (Some access) l in
-        let n : length (bytes_of access.size value) ≡ access.size = length-bytes_of access.size value in
-        cond_both (is_good access.address access.size) (byte_landings time access.address (bytes_of access.size value))
-        [] P
-        (λ good k.
-        let r = from_In-bytes time access.address (bytes_of access.size value) l k in
-        let high : l.cell < access.address + length (bytes_of access.size value) = r.1 in
-        record {
-          access = access;
-          value = value;
-          accesses = refl;
-          stores = e;
-          good = good;
-          low = r.0;
-          high = omega
-              arith;
-          at = r.2;
-        })
-        (λ bad k. absurd k) h
+from_In-access time o l h = grind (arith, length-bytes_of, from_In-bytes, stores)
 
 InOrder-bytes : (cell time address : ℕ) (bytes : List ℕ) → InOrder cell (byte_landings time address bytes)
 InOrder-bytes cell time address [] = tt
@@ -256,24 +182,13 @@ InOrder-bytes cell time address (b ∷ bs) = (
 -- the bytes of one store have cells of their own
 pub InOrder-access : (cell time : ℕ) (o : Option MemoryAccess) → InOrder cell (access_landings time o)
 InOrder-access cell time None = tt
-InOrder-access cell time (Some access) = of_value access.value
-  where
-    of_value : (value : Option ℕ) → InOrder cell (stored_landings time access.address access.size value)
-    of_value None = tt
-    of_value (Some value) =
-        let P : List Landing → Type 0 = λ ls. InOrder cell ls in
-        cond_both (is_good access.address access.size) (byte_landings time access.address (bytes_of access.size value))
-        [] P
-        (λ good. InOrder-bytes cell time access.address (bytes_of access.size value)) (λ bad. tt)
+InOrder-access cell time (Some access) = grind (arith, InOrder-bytes cell time access.address)
 
 -- the access of an act is that of its instruction, which runs
 pub act_accesses : (insn : Insn) (base : ℕ) (word : Reg → ℕ) (byte : ℕ → ℕ) (access : MemoryAccess)
     → (act_of insn base word byte).access ≡ Some access
     → (runs word insn ≡ true) × (access_at insn base word ≡ Some access)
-act_accesses insn base word byte access =
-    let P : Act → Type 0 = λ a. a.access ≡ Some access → (runs word insn ≡ true)
-    × (access_at insn base word ≡ Some access) in
-    cond_both (runs word insn) (act_on insn base (operand_values word insn) byte) no_act P (λ t h. (t, h)) (λ t h. cc)
+act_accesses insn base word byte access = grind (arith, nat_tests)
 
 -- what stores a byte is a store
 pub stores_byte : (insn : Insn) (base : ℕ) (word : Reg → ℕ) (byte : ℕ → ℕ) (time : ℕ) (l : Landing)

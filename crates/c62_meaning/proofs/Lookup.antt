@@ -1,10 +1,10 @@
 -- Lookups: the last write in a list, and the one of greatest time, are one where the list is in the order of time.
-use Rattle.std.proofs.Common.{◌≡◌, ℕ, zero, suc, length, ◌<◌, ◌≤◌, cond, eqb, ltb, ◌&&◌, List, [], ◌∷◌, ◌++◌, Some}
-use Rattle.std.proofs.Common.{None, refl, sym, ◌∙◌, ap, subst, ◌⊎◌, inl, inr, ⊎_elim, arith}
-use Rattle.std.proofs.lemmas.Bool.{cases_Bool, and_parts, eqb-true, ltb-true, eq-eqb, lt-ltb, le-ltb, cases_lt}
-use Rattle.std.proofs.lemmas.Bool.{cases_eq, cond-true, cond-false, and_from, ne_eqb, false≢true, and_right}
+use Rattle.std.proofs.Common.{◌≡◌, ℕ, suc, length, ◌<◌, ◌≤◌, cond, eqb, List, [], ◌∷◌, ◌++◌, Some}
+use Rattle.std.proofs.Common.{None, refl, ◌∙◌, ◌⊎◌, inl, inr, ⊎_elim, arith}
+use Rattle.std.proofs.lemmas.Bool.{le-ltb}
+use Rattle.std.proofs.lemmas.Bool.{cond-false, and_right}
 use Rattle.std.specs.List.{flat_map, Contains}
-use Rattle.c62_meaning.specs.Landing.{Landing, later, latest, value_or}
+use Rattle.c62_meaning.specs.Landing.{Landing, latest, value_or}
 
 abbrev pub In : {X : Type 0} → X → List X → Type 0
 In x [] = ⊥
@@ -12,8 +12,7 @@ In x (y ∷ ys) = (y ≡ x) ⊎ In x ys
 
 pub In_from_Contains : {X : Type 0} → (x : X) (xs : List X) → Contains xs x → In x xs
 In_from_Contains x [] (k, l, e) = absurd (omega arith)
-In_from_Contains x (y ∷ ys) (zero, l, e) = inl e
-In_from_Contains x (y ∷ ys) (suc k, l, e) = inr (In_from_Contains x ys (k, omega arith, e))
+In_from_Contains x (y ∷ ys) h = grind (arith, In_from_Contains x ys)
 
 pub Contains_from_In : {X : Type 0} → (x : X) (xs : List X) → In x xs → Contains xs x
 Contains_from_In x [] h = absurd h
@@ -23,8 +22,7 @@ Contains_from_In x (y ∷ ys) (inr h) = let r = Contains_from_In x ys h in let l
 
 pub In-append_left : {X : Type 0} → (x : X) (xs ys : List X) → In x xs → In x (xs ++ ys)
 In-append_left x [] ys h = absurd h
-In-append_left x (y ∷ xs) ys (inl e) = inl e
-In-append_left x (y ∷ xs) ys (inr h) = inr (In-append_left x xs ys h)
+In-append_left x (y ∷ xs) ys h = grind (arith, In-append_left x xs ys)
 
 pub In-append_right : {X : Type 0} → (x : X) (xs ys : List X) → In x ys → In x (xs ++ ys)
 In-append_right x [] ys h = h
@@ -32,21 +30,17 @@ In-append_right x (y ∷ xs) ys h = inr (In-append_right x xs ys h)
 
 pub In-append_cases : {X : Type 0} → (x : X) (xs ys : List X) → In x (xs ++ ys) → In x xs ⊎ In x ys
 In-append_cases x [] ys h = inr h
-In-append_cases x (y ∷ xs) ys (inl e) = inl (inl e)
-In-append_cases x (y ∷ xs) ys (inr h) = ⊎_elim (λ a. inl (inr a)) (λ b. inr b) (In-append_cases x xs ys h)
+In-append_cases x (y ∷ xs) ys h = grind (arith, In-append_cases x xs ys)
 
 pub In-flat_map : {X Y : Type 0} → (f : X → List Y) (y : Y) (x : X) (xs : List X) → In x xs → In y (f x)
     → In y (flat_map f xs)
 In-flat_map f y x [] h k = absurd h
-In-flat_map f y x (z ∷ xs) (inl e) k = In-append_left y (f z) (flat_map f xs) (subst (λ v. In y (f v)) (sym e) k)
-In-flat_map f y x (z ∷ xs) (inr h) k = In-append_right y (f z) (flat_map f xs) (In-flat_map f y x xs h k)
+In-flat_map f y x (z ∷ xs) h k = grind (arith, In-flat_map f y x xs, In-append_left, In-append_right)
 
 pub from_In-flat_map : {X Y : Type 0} → (f : X → List Y) (y : Y) (xs : List X) → In y (flat_map f xs) → (x : X)
     × In x xs × In y (f x)
 from_In-flat_map f y [] h = absurd h
-from_In-flat_map f y (z ∷ xs) h =
-    ⊎_elim (λ a. (z, inl refl, a)) (λ b. let r = from_In-flat_map f y xs b in (r.0, inr r.1, r.2))
-    (In-append_cases y (f z) (flat_map f xs) h)
+from_In-flat_map f y (z ∷ xs) h = grind (arith, from_In-flat_map f y xs, In-append_cases y (f z) (flat_map f xs) h)
 
 -- w is the landing at this cell before t of the greatest time
 pub record IsLatest (cell t : ℕ) (ls : List Landing) (w : Landing) : Type 0 where
@@ -62,77 +56,9 @@ abbrev pub LatestCases : ℕ → ℕ → List Landing → Type 0
 LatestCases cell t ls = (NoneBefore cell t ls × (latest cell t ls ≡ None))
     ⊎ ((w : Landing) × IsLatest cell t ls w × (latest cell t ls ≡ Some w))
 
-latest_skip : (cell t : ℕ) (x : Landing) (xs : List Landing) → (x.cell ≡ cell → x.time < t → ⊥)
-    → latest cell t (x ∷ xs) ≡ latest cell t xs → LatestCases cell t xs → LatestCases cell t (x ∷ xs)
-latest_skip cell t x xs out same (inl (none, e)) =
-    inl (
-      (λ v h p l. ⊎_elim (λ q. out (ap (λ (u : Landing). u.cell) q
-          ∙ p) (subst (λ (u : Landing). u.time < t) (sym q) l)) (λ k. none v k p l) h),
-      same ∙ e,
-    )
-latest_skip cell t x xs out same (inr (w, i, e)) =
-    inr (
-      w,
-      record {
-        inside = inr i.inside;
-        here = i.here;
-        early = i.early;
-        last = λ v h p l. ⊎_elim
-            (λ q. absurd (out (ap (λ (u : Landing). u.cell) q ∙ p) (subst (λ (u : Landing). u.time < t) (sym q) l)))
-            (λ k. i.last v k p l) h;
-      },
-      same ∙ e,
-    )
-
-latest_take : (cell t : ℕ) (x : Landing) (xs : List Landing) → x.cell ≡ cell → x.time < t
-    → latest cell t (x ∷ xs) ≡ Some (later x (latest cell t xs)) → LatestCases cell t xs
-    → LatestCases cell t (x ∷ xs)
-latest_take cell t x xs here early same (inl (none, e)) =
-    inr (
-      x,
-      record {
-        inside = inl refl;
-        here = here;
-        early = early;
-        last = λ v h p l. ⊎_elim (λ q. subst (λ (u : Landing). u.time ≤ x.time) q (omega arith))
-            (λ k. absurd (none v k p l)) h;
-      },
-      same ∙ ap (λ o. Some (later x o)) e,
-    )
-latest_take cell t x xs here early same (inr (w, i, e)) =
-    ⊎_elim
-    (λ lt. inr (
-      x,
-      record {
-        inside = inl refl;
-        here = here;
-        early = early;
-        last = λ v h p l. ⊎_elim (λ q. subst (λ (u : Landing). u.time ≤ x.time) q (omega arith))
-            (λ k. let m = i.last v k p l in omega arith) h;
-      },
-      same ∙ ap (λ o. Some (later x o)) e ∙ ap Some (cond-true _ x w (lt-ltb _ _ lt)),
-    ))
-    (λ ge. inr (
-      w,
-      record {
-        inside = inr i.inside;
-        here = i.here;
-        early = i.early;
-        last = λ v h p l. ⊎_elim (λ q. subst (λ (u : Landing). u.time ≤ w.time) q ge) (λ k. i.last v k p l) h;
-      },
-      same ∙ ap (λ o. Some (later x o)) e ∙ ap Some (cond-false _ x w (le-ltb _ _ ge)),
-    ))
-    (cases_lt w.time x.time)
-
 pub latest_cases : (cell t : ℕ) (ls : List Landing) → LatestCases cell t ls
 latest_cases cell t [] = inl ((λ v h p l. h), refl)
-latest_cases cell t (x ∷ xs) =
-    ⊎_elim
-    (λ e. let b = and_parts _ _ e in latest_take cell t x xs (eqb-true _ _ b.0) (ltb-true _ _ b.1) (cond-true _ _ _ e)
-    (latest_cases cell t xs))
-    (λ e. latest_skip cell t x xs (λ p l. false≢true (sym e ∙ and_from _ _ (eq-eqb _ _ p) (lt-ltb _ _ l)))
-    (cond-false _ _ _ e) (latest_cases cell t xs))
-    (cases_Bool (eqb x.cell cell && ltb x.time t))
+latest_cases cell t (x ∷ xs) = grind (arith, latest_cases cell t xs)
 
 -- the value that the writes leave at a cell
 abbrev pub last_value : ℕ → List Landing → ℕ → ℕ
@@ -155,54 +81,7 @@ LastCases cell ls old = (((v : Landing) → In v ls → v.cell ≡ cell → ⊥)
 
 last_cases : (cell : ℕ) (ls : List Landing) (old : ℕ) → InOrder cell ls → LastCases cell ls old
 last_cases cell [] old o = inl ((λ v h p. h), refl)
-last_cases cell (x ∷ xs) old o =
-    ⊎_elim
-    (λ p. last_take cell x xs old p o (last_cases cell xs x.value o.1))
-    (λ p. last_skip cell x xs old p (last_cases cell xs old o.1))
-    (cases_eq x.cell cell)
-  where
-    last_take : (cell : ℕ) (x : Landing) (xs : List Landing) (old : ℕ) → x.cell ≡ cell → InOrder cell (x ∷ xs)
-        → LastCases cell xs x.value → LastCases cell (x ∷ xs) old
-    last_take cell x xs old here o (inl (none, e)) =
-        inr (
-          x,
-          record {
-            inside = inl refl;
-            here = here;
-            last = λ v h p. ⊎_elim (λ q. inr (sym q)) (λ k. absurd (none v k p)) h;
-          },
-          ap (λ u. last_value cell xs u) (cond-true _ _ _ (eq-eqb _ _ here)) ∙ e,
-        )
-    last_take cell x xs old here o (inr (w, i, e)) =
-        inr (
-          w,
-          record {
-            inside = inr i.inside;
-            here = i.here;
-            last = λ v h p. ⊎_elim (λ q. inl (subst (λ (u : Landing). u.time < w.time) q (o.0 w i.inside here i.here)))
-                (λ k. i.last v k p) h;
-          },
-          ap (λ u. last_value cell xs u) (cond-true _ _ _ (eq-eqb _ _ here)) ∙ e,
-        )
-
-    last_skip : (cell : ℕ) (x : Landing) (xs : List Landing) (old : ℕ) → (x.cell ≡ cell → ⊥) → LastCases cell xs old
-        → LastCases cell (x ∷ xs) old
-    last_skip cell x xs old out (inl (none, e)) =
-        inl (
-          (λ v h p. ⊎_elim (λ q. out (ap (λ (u : Landing). u.cell) q ∙ p)) (λ k. none v k p) h),
-          ap
-              (λ u. last_value cell xs u) (cond-false _ _ _ (ne_eqb _ _ out)) ∙ e,
-        )
-    last_skip cell x xs old out (inr (w, i, e)) =
-        inr (
-          w,
-          record {
-            inside = inr i.inside;
-            here = i.here;
-            last = λ v h p. ⊎_elim (λ q. absurd (out (ap (λ (u : Landing). u.cell) q ∙ p))) (λ k. i.last v k p) h;
-          },
-          ap (λ u. last_value cell xs u) (cond-false _ _ _ (ne_eqb _ _ out)) ∙ e,
-        )
+last_cases cell (x ∷ xs) old o = grind (arith, last_cases cell xs x.value o.1, last_cases cell xs old o.1)
 
 -- Of writes `ls` in serial order, and landings `ms` of which those before t are the same ones, the greatest is the
 -- last.
@@ -214,19 +93,7 @@ pub record IsSeen (cell t : ℕ) (ls ms : List Landing) : Type 0 where
 
 pub latest_is_last : (cell t : ℕ) (ls ms : List Landing) (old : ℕ) → IsSeen cell t ls ms
     → value_or (latest cell t ms) old ≡ last_value cell ls old
-latest_is_last cell t ls ms old s = go (latest_cases cell t ms) (last_cases cell ls old s.in_order)
-  where
-    go : LatestCases cell t ms → LastCases cell ls old → value_or (latest cell t ms) old ≡ last_value cell ls old
-    go (inl (none, e)) (inl (none', e')) = rw e (sym e')
-    go (inl (none, e)) (inr (w, i, e')) =
-        absurd (none w (s.landed w i.inside i.here (s.in_time w i.inside i.here)) i.here (s.in_time w i.inside i.here))
-    go (inr (v, j, e)) (inl (none, e')) = absurd (none v (s.no_other v j.inside j.here j.early) j.here)
-    go (inr (v, j, e)) (inr (w, i, e')) =
-        let early : w.time < t = s.in_time w i.inside i.here in
-        let top : w.time ≤ v.time = j.last w (s.landed w i.inside i.here early) i.here early in
-        let same : v ≡ w = ⊎_elim {C = v ≡ w} (λ lt. absurd (omega arith)) (λ q. q)
-        (i.last v (s.no_other v j.inside j.here j.early) j.here) in
-        rw e (ap (λ (u : Landing). u.value) same ∙ sym e')
+latest_is_last cell t ls ms old s = grind (arith, latest_cases cell t ms, last_cases cell ls old s.in_order)
 
 pub last_value-append : (cell : ℕ) (ls ms : List Landing) (old : ℕ)
     → last_value cell (ls ++ ms) old ≡ last_value cell ms (last_value cell ls old)
@@ -246,8 +113,7 @@ InOrder-append cell (x ∷ xs) ms o p h = (
 pub latest-append : (cell t : ℕ) (ls ms ns : List Landing) → latest cell t ms ≡ latest cell t ns
     → latest cell t (ls ++ ms) ≡ latest cell t (ls ++ ns)
 latest-append cell t [] ms ns e = e
-latest-append cell t (x ∷ xs) ms ns e =
-    ap (λ o. cond (eqb x.cell cell && ltb x.time t) (Some (later x o)) o) (latest-append cell t xs ms ns e)
+latest-append cell t (x ∷ xs) ms ns e = grind (arith, latest-append cell t xs ms ns e)
 
 pub latest-late : (cell t : ℕ) (ls ms : List Landing) → ((w : Landing) → In w ls → t ≤ w.time)
     → latest cell t (ls ++ ms) ≡ latest cell t ms

@@ -1,17 +1,16 @@
 -- Landings moved, and landings behind others.
 use Rattle.std.proofs.Common.{◌≡◌, ℕ, ◌+◌, ◌*◌, ◌<◌, ◌≤◌, Bool, true, false, cond, eqb, ltb, ◌&&◌, List, [], ◌∷◌, ◌++◌}
-use Rattle.std.proofs.Common.{map, Option, Some, None, refl, sym, ◌∙◌, ap, subst, inl, inr, ⊎_elim, arith}
-use Rattle.std.specs.Prelude.{option_map, if◌then◌else◌}
+use Rattle.std.proofs.Common.{map, Option, Some, None, refl, sym, ◌∙◌, ap, subst, inl, inr, arith}
+use Rattle.std.specs.Prelude.{option_map}
 use Rattle.std.specs.List.{flat_map}
 use Rattle.std.specs.Option.{option_or}
-use Rattle.std.proofs.lemmas.Bool.{cases_lt, lt-ltb, le-ltb, cond-false}
+use Rattle.std.proofs.lemmas.Bool.{lt-ltb, le-ltb, cond-false}
 use Rattle.std.proofs.lemmas.List.{append-nil, map-append}
 use Rattle.c62_op.specs.declared.register.Reg.{Reg}
 use Rattle.c62_insn.specs.declared.effect.Access.{Access as MemoryAccess}
-use Rattle.c62_serial.specs.Memory.{is_good, bytes_of}
 use Rattle.c62_packet.specs.declared.placed.Placed.{Placed}
 use Rattle.c62_meaning.specs.Landing.{Landing, later, latest, value_or, value_before}
-use Rattle.c62_meaning.specs.Packet.{Did, write_landing, byte_landings, stored_landings, access_landings, access_time}
+use Rattle.c62_meaning.specs.Packet.{Did, write_landing, byte_landings, access_landings, access_time}
 use Rattle.c62_meaning.specs.Packet.{register_landings, memory_landings}
 use Rattle.c62_meaning.specs.Cut.{moved, since}
 use Rattle.c62_meaning.proofs.Lookup.{In, latest-append, latest-late}
@@ -22,33 +21,12 @@ abbrev pub moved_landing : ℕ → Landing → Landing
 moved_landing t w = record w { time = t + w.time }
 
 pub ltb_moved : (t a b : ℕ) → ltb (t + a) (t + b) ≡ ltb a b
-ltb_moved t a b =
-    ⊎_elim {C = ltb (t + a) (t + b) ≡ ltb a b}
-    (λ l. lt-ltb (t + a) (t + b) (omega arith) ∙ sym (lt-ltb a b l))
-    (λ g. le-ltb (t + a) (t + b) (omega arith) ∙ sym (le-ltb a b g))
-    (cases_lt a b)
-
-later_moved : (t : ℕ) (x : Landing) (o : Option Landing)
-    → later (moved_landing t x) (option_map (moved_landing t) o) ≡ moved_landing t (later x o)
-later_moved t x None = refl
-later_moved t x (Some y) = rw (ltb_moved t y.time x.time) (either (ltb y.time x.time))
-  where
-    either : (b : Bool) → cond b (moved_landing t x) (moved_landing t y) ≡ moved_landing t (cond b x y)
-    either true = refl
-    either false = refl
+ltb_moved t a b = grind arith
 
 latest_moved : (cell t u : ℕ) (ls : List Landing)
     → latest cell (t + u) (map (moved_landing t) ls) ≡ option_map (moved_landing t) (latest cell u ls)
 latest_moved cell t u [] = refl
-latest_moved cell t u (x ∷ xs) =
-    rw (ltb_moved t x.time u, latest_moved cell t u xs, later_moved t x (latest cell u xs))
-    (either (eqb x.cell cell && ltb x.time u) (latest cell u xs))
-  where
-    either : (b : Bool) (o : Option Landing)
-        → cond b (Some (moved_landing t (later x o))) (option_map (moved_landing t) o) ≡ option_map (moved_landing t)
-        (cond b (Some (later x o)) o)
-    either true o = refl
-    either false o = refl
+latest_moved cell t u (x ∷ xs) = grind (arith, latest_moved cell t u xs)
 
 -- what lands behind is seen first
 latest_behind : (cell t u : ℕ) (es ls : List Landing) → ((w : Landing) → In w es → w.time < t)
@@ -78,13 +56,7 @@ latest_behind cell t u (e ∷ es) ls h =
 pub value_behind : (cell t u : ℕ) (es ls : List Landing) (old : ℕ) → ((w : Landing) → In w es → w.time < t)
     → value_before cell (t + u) (es ++ map (moved_landing t) ls) old ≡ value_before cell u ls
     (value_before cell t es old)
-value_behind cell t u es ls old h = ap (λ o. value_or o old) (latest_behind cell t u es ls h)
-    ∙ either (latest cell u ls) (latest cell t es)
-  where
-    either : (o early : Option Landing)
-        → value_or (option_or (option_map (moved_landing t) o) early) old ≡ value_or o (value_or early old)
-    either None early = refl
-    either (Some w) early = refl
+value_behind cell t u es ls old h = grind (arith, latest_behind cell t u es ls h)
 
 -- up to the cut nothing that lands behind is seen
 pub value_ahead : (cell t u : ℕ) (es ls : List Landing) (old : ℕ) → u ≤ t
@@ -95,8 +67,7 @@ value_ahead cell t u es ls old l =
   where
     after : (ls : List Landing) (w : Landing) → In w (map (moved_landing t) ls) → u ≤ w.time
     after [] w h = absurd h
-    after (x ∷ xs) w (inl e) = let s : t + x.time ≡ w.time = ap (λ (v : Landing). v.time) e in omega arith
-    after (x ∷ xs) w (inr h) = after xs w h
+    after (x ∷ xs) w h = grind (arith, after xs w)
 
     none : latest cell u (map (moved_landing t) ls) ≡ None
     none =
@@ -108,8 +79,7 @@ value_ahead cell t u es ls old l =
 writes_moved : (t cycle : ℕ) (ws : List ((Reg × ℕ) × ℕ))
     → map (write_landing (t + cycle)) ws ≡ map (moved_landing t) (map (write_landing cycle) ws)
 writes_moved t cycle [] = refl
-writes_moved t cycle (w ∷ ws) =
-    let e : (t + cycle) + w.0.1 ≡ t + (cycle + w.0.1) = omega arith in rw (e, writes_moved t cycle ws) refl
+writes_moved t cycle (w ∷ ws) = grind (arith, writes_moved t cycle ws)
 
 pub registers_moved : (t : ℕ) (did : Did) (ps : List Placed)
     → flat_map (register_landings did) (map (moved t) ps) ≡ map (moved_landing t)
@@ -127,20 +97,7 @@ bytes_moved t time address (b ∷ bs) = rw (bytes_moved t time (address + 1) bs)
 
 access_moved : (t time : ℕ) (o : Option MemoryAccess)
     → access_landings (t + time) o ≡ map (moved_landing t) (access_landings time o)
-access_moved t time None = refl
-access_moved t time (Some access) = of_value access.value
-  where
-    either : (b : Bool) (bytes : List ℕ)
-        → (if b then byte_landings (t + time) access.address bytes else []) ≡ map (moved_landing t)
-        (if b then byte_landings time access.address bytes else [])
-    either true bytes = bytes_moved t time access.address bytes
-    either false bytes = refl
-
-    of_value : (value : Option ℕ)
-        → stored_landings (t + time) access.address access.size value ≡ map (moved_landing t)
-        (stored_landings time access.address access.size value)
-    of_value None = refl
-    of_value (Some value) = either (is_good access.address access.size) (bytes_of access.size value)
+access_moved t time o = grind (arith, bytes_moved)
 
 pub memory_moved : (t : ℕ) (did : Did) (ps : List Placed)
     → flat_map (memory_landings did) (map (moved t) ps) ≡ map (moved_landing (8 * t))

@@ -1,17 +1,15 @@
 -- Of instructions under opposite conditions on a register that keeps its word at most one runs.
-use Rattle.std.proofs.Common.{◌≡◌, ◌≢◌, ℕ, zero, suc, ◌<◌, ◌≤◌, Bool, true, false, not, cond, eqb, List, [], ◌∷◌}
-use Rattle.std.proofs.Common.{get_or, set, Option, Some, refl, sym, ◌∙◌, ap, subst, inl, inr, ⊎_elim, arith}
-use Rattle.std.specs.Prelude.{Contains, fold, option_map}
-use Rattle.std.proofs.lemmas.Bool.{cases_lt, false≢true, cond_both}
+use Rattle.std.proofs.Common.{◌≡◌, ◌≢◌, ℕ, zero, suc, ◌<◌, ◌≤◌, Bool, true, not, cond, eqb, List, [], ◌∷◌}
+use Rattle.std.proofs.Common.{get_or, set, refl, sym, ◌∙◌, ap, inl, inr, ⊎_elim, arith}
+use Rattle.std.specs.Prelude.{Contains, fold}
+use Rattle.std.proofs.lemmas.Bool.{cases_lt}
 use Rattle.std.proofs.lemmas.List.{get_or-set_other}
 use Rattle.c62_op.specs.declared.register.Reg.{Reg}
-use Rattle.c62_op.specs.declared.register.Cond.{Cond as Condition}
 use Rattle.c62_insn.specs.declared.insn.Insn.{Insn}
 use Rattle.c62_insn.specs.Insn.{register_writes}
-use Rattle.c62_insn.specs.Effect.{runs_of}
 use Rattle.c62_rules.specs.Exclusive.{IsExclusive}
 use Rattle.c62_serial.specs.State.{index_of, word_in, byte_in}
-use Rattle.c62_serial.specs.Effect.{Act, no_act, runs, operand_values, act_on, act_of}
+use Rattle.c62_serial.specs.Effect.{runs, act_of}
 use Rattle.c62_serial.specs.Serial.{after_write}
 use Rattle.c62_meaning.proofs.Lookup.{In, Contains_from_In}
 use Rattle.c62_meaning.proofs.Landings.{act_writes}
@@ -20,17 +18,10 @@ use Rattle.c62_meaning.proofs.SameRuns.{Numbered, machine_at, serial_act}
 -- what writes runs
 pub writes_runs : (insn : Insn) (base : ℕ) (word : Reg → ℕ) (byte : ℕ → ℕ) (w : (Reg × ℕ) × ℕ)
     → In w (act_of insn base word byte).writes → runs word insn ≡ true
-writes_runs insn base word byte w =
-    let P : Act → Type 0 = λ a. In w a.writes → runs word insn ≡ true in
-    cond_both (runs word insn) (act_on insn base (operand_values word insn) byte) no_act P (λ t h. t) (λ t h. absurd h)
+writes_runs insn base word byte w = grind arith
 
 pub opposite_tests : (a b t : Bool) → a ≢ b → cond a t (not t) ≡ true → cond b t (not t) ≡ true → ⊥
-opposite_tests true true t ne e f = ne refl
-opposite_tests true false true ne e f = false≢true f
-opposite_tests true false false ne e f = false≢true e
-opposite_tests false true true ne e f = false≢true e
-opposite_tests false true false ne e f = false≢true f
-opposite_tests false false t ne e f = ne refl
+opposite_tests a b t ne e f = grind arith
 
 -- writes elsewhere leave a register as it was
 writes_elsewhere : (k : ℕ) (ws : List ((Reg × ℕ) × ℕ)) (rs : List ℕ)
@@ -65,14 +56,8 @@ pub not_both : (b : Numbered) (block : List Insn) (i j : ℕ) → i ≤ j
     → (x : IsExclusive block i j (b.entry i).insn (b.entry j).insn) → IsUnwritten b i j x.one.reg
     → runs (word_in (machine_at b i)) (b.entry i).insn ≡ true → runs (word_in (machine_at b j)) (b.entry j).insn ≡ true
     → ⊥
-not_both b block i j l x unwritten first second =
-    let one : runs_of (Some x.one) (Some (word_in (machine_at b i) x.one.reg)) ≡ true
-    = subst (λ (c : Option Condition). runs_of c
-    (option_map (λ (test : Condition). word_in (machine_at b i) test.reg) c) ≡ true) x.is_one first in
-    let other : runs_of (Some x.other) (Some (word_in (machine_at b j) x.other.reg)) ≡ true
-    = subst (λ (c : Option Condition). runs_of c
-    (option_map (λ (test : Condition). word_in (machine_at b j) test.reg) c) ≡ true) x.is_other second in
-    let e : word_in (machine_at b j) x.other.reg ≡ word_in (machine_at b i) x.one.reg
-    = ap (λ (r : Reg). word_in (machine_at b j) r) (sym x.same) ∙ word_kept b i j x.one.reg l unwritten in
-    opposite_tests x.one.negated x.other.negated (eqb (word_in (machine_at b i) x.one.reg) 0) x.opposite one
-    (subst (λ (v : ℕ). cond x.other.negated (eqb v 0) (not (eqb v 0)) ≡ true) e other)
+not_both b block i j l x unwritten first second = grind (
+  arith,
+  word_kept b i j x.one.reg l unwritten,
+  opposite_tests x.one.negated x.other.negated (eqb (word_in (machine_at b i) x.one.reg) 0) x.opposite,
+)

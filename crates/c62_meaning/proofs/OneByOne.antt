@@ -1,14 +1,12 @@
 -- No two executed writes of one register land in one cycle.
-use Rattle.std.proofs.Common.{◌≡◌, ℕ, zero, suc, ◌≤◌, Bool, true, not, cond, eqb, ltb, ◌&&◌, List, [], ◌∷◌, Option}
+use Rattle.std.proofs.Common.{◌≡◌, ℕ, suc, ◌≤◌, Bool, true, cond, eqb, ltb, ◌&&◌, List, [], ◌∷◌, Option}
 use Rattle.std.proofs.Common.{Some, refl, sym, ◌∙◌, ap, subst, inl, inr, ⊎_elim, arith}
-use Rattle.std.specs.Prelude.{◌↔◌, Contains, slice_get, option_map}
+use Rattle.std.specs.Prelude.{◌↔◌, Contains, slice_get}
 use Rattle.std.specs.List.{flat_map}
-use Rattle.std.proofs.lemmas.Bool.{cases_lt, cases_eq, and_left, ne_eqb, lt-ltb, le-ltb}
-use Rattle.std.proofs.lemmas.Option.{none-some, same_Some}
+use Rattle.std.proofs.lemmas.Bool.{cases_lt, lt-ltb, le-ltb}
+use Rattle.std.proofs.lemmas.Option.{none-some}
 use Rattle.c62_op.specs.declared.register.Reg.{Reg}
-use Rattle.c62_op.specs.declared.register.Cond.{Cond as Condition}
 use Rattle.c62_insn.specs.Insn.{register_writes}
-use Rattle.c62_insn.specs.Effect.{runs_of}
 use Rattle.c62_rules.specs.PacketRules.{Issue, IsIssued, LandsIn, MayLandTogether, HasOneLanding}
 use Rattle.c62_serial.specs.State.{Machine, index_of, word_in}
 use Rattle.c62_serial.specs.Effect.{Act, runs, act_of}
@@ -22,6 +20,7 @@ use Rattle.c62_meaning.proofs.Landings.{from_In-writes, act_writes}
 use Rattle.c62_op.proofs.Registers.{same_register}
 use Rattle.c62_meaning.proofs.NotBoth.{writes_runs, opposite_tests}
 use Rattle.c62_packet.proofs.Placings.{issued_at}
+use Rattle.std.proofs.lemmas.Bool.Decides.{nat_tests}
 
 -- a lookup is the same at two times between which nothing lands at the cell
 latest-stays : (cell t u : ℕ) (ls : List Landing)
@@ -43,16 +42,11 @@ latest-stays cell t u (x ∷ xs) h =
         (cases_lt x.time t)
 
     same : (eqb x.cell cell && ltb x.time t) ≡ (eqb x.cell cell && ltb x.time u)
-    same =
-        ⊎_elim {C = (eqb x.cell cell && ltb x.time t) ≡ (eqb x.cell cell && ltb x.time u)}
-        (λ p. ap (λ b. eqb x.cell cell && b) (at_cell p))
-        (λ p. and_left _ _ (ne_eqb _ _ p) ∙ sym (and_left _ _ (ne_eqb _ _ p)))
-        (cases_eq x.cell cell)
+    same = grind (arith, at_cell)
 
 pub inside_at : (block : List Placed) (i : ℕ) (p : Placed) → slice_get block i ≡ Some p → In p block
 inside_at [] i p e = absurd (none-some p e)
-inside_at (q ∷ block) zero p e = inl (same_Some q p e)
-inside_at (q ∷ block) (suc i) p e = inr (inside_at block i p e)
+inside_at (q ∷ block) i p e = grind (arith, inside_at block)
 
 number_of : (block : List Placed) (p : Placed) → In p block → (k : ℕ) × IsIssued (issued block) k (issue_of p)
 number_of [] p h = absurd h
@@ -60,9 +54,6 @@ number_of (q ∷ block) p (inl e) = (0, ap (λ (z : Placed). Some (issue_of z)) 
 number_of (q ∷ block) p (inr h) = let r = number_of block p h in (suc r.0, r.1)
 
 module _ (block : List Placed) (opening : Machine) (did : Did) (run : IsRun block opening did) where
-  found : Placed → Reg → ℕ
-  found p reg = word_before block opening did p.cycle reg
-
   does : (p : Placed) → In p block
       → did p ≡ act_of p.insn opening.base (word_before block opening did p.cycle)
       (byte_before block opening did p.cycle)
@@ -84,11 +75,9 @@ module _ (block : List Placed) (opening : Machine) (did : Did) (run : IsRun bloc
 
   lands_in : (p : Placed) (reg : Reg) (cycle : ℕ) → In p block → HasLanded did p reg cycle
       → LandsIn (issue_of p) reg cycle
-  lands_in p reg cycle h l = (
-    l.delay,
-    (made p h ((reg, l.delay), l.value)
-        (In_from_Contains ((reg, l.delay), l.value) (did p).writes l.writes)).0,
-    l.lands,
+  lands_in p reg cycle h l = grind (
+    arith,
+    made p h ((reg, l.delay), l.value) (In_from_Contains ((reg, l.delay), l.value) (did p).writes l.writes),
   )
 
   -- a register to which nothing lands between two issues is the same before both
@@ -114,21 +103,7 @@ module _ (block : List Placed) (opening : Machine) (did : Did) (run : IsRun bloc
   not_both : (p q : Placed) → MayLandTogether (issued block) (issue_of p) (issue_of q)
       → runs (word_before block opening did p.cycle) p.insn ≡ true
       → runs (word_before block opening did q.cycle) q.insn ≡ true → ⊥
-  not_both p q may a b =
-      let a' : runs_of (Some may.one) (Some (word_before block opening did p.cycle may.one.reg)) ≡ true
-      = subst (λ (c : Option Condition). runs_of c
-      (option_map (λ (cond : Condition). word_before block opening did p.cycle cond.reg) c) ≡ true) may.is_one a
-      in
-      let b' : runs_of (Some may.other) (Some (word_before block opening did q.cycle may.other.reg)) ≡ true
-      = subst (λ (c : Option Condition). runs_of c
-      (option_map (λ (cond : Condition). word_before block opening did q.cycle cond.reg) c) ≡ true) may.is_other
-      b in
-      let e : word_before block opening did q.cycle may.other.reg ≡ word_before block opening did p.cycle may.one.reg
-      = ap (λ (r : Reg). word_before block opening did q.cycle r) (sym may.same)
-      ∙ sym (word_stays p q may.one.reg may.stays) in
-      opposite_tests may.one.negated may.other.negated (eqb (word_before block opening did p.cycle may.one.reg) 0)
-      may.opposite a'
-      (subst (λ (v : ℕ). cond may.other.negated (eqb v 0) (not (eqb v 0)) ≡ true) e b')
+  not_both p q may a b = grind (arith, nat_tests, word_stays, opposite_tests)
 
   pub one_by_one : HasOneLanding (issued block) → LandOneByOne block did
   one_by_one rule i j p q reg cycle at_i at_j first second =

@@ -4,7 +4,6 @@ use Rattle.std.specs.Prelude.{◌↔◌}
 use Rattle.std.specs.List.{All}
 use Rattle.std.proofs.lemmas.List.Elements.{All-head, All-tail}
 use Rattle.std.proofs.lemmas.List.Sums.{sum_by-cons}
-use Rattle.std.proofs.lemmas.Option.{none-some}
 use Rattle.c62_serial.specs.State.{Machine, IsSound}
 use Rattle.c62_serial.specs.Effect.{no_act}
 use Rattle.c62_packet.specs.Packed.{AreDrained}
@@ -14,7 +13,7 @@ use Rattle.c62_meaning.specs.Cut.{RunsTo, since, joined, Part, in_turn, cycles_o
 use Rattle.c62_meaning.specs.Cut.{PartsRunInTurn}
 use Rattle.c62_meaning.proofs.CutWords.{drained_landed}
 use Rattle.c62_meaning.proofs.Cuts.{on}
-use Rattle.c62_meaning.proofs.JoinedRuns.{runs_nothing, nothing_runs, both_drained}
+use Rattle.c62_meaning.proofs.JoinedRuns.{runs_nothing, nothing_runs}
 use Rattle.c62_meaning.proofs.CutLandings.{drained_cuts}
 
 abbrev Drained : List Part → Type 0
@@ -47,8 +46,7 @@ run_in_turn (part ∷ parts) drained opening did final sound r =
 
 all_in_turn : (parts : List Part) → Drained parts → (opening : Machine) (did : Did) (final : Machine) → IsSound opening
     → RunInTurn parts opening did final → AllRunTo parts opening did final
-all_in_turn [] drained opening did final sound e = subst (λ m. RunsTo [] 0 opening did m) (sym e)
-    (runs_nothing 0 opening did sound)
+all_in_turn [] drained opening did final sound e = grind arith
 all_in_turn (part ∷ parts) drained opening did final sound (middle, one, rest) =
     subst (λ n. RunsTo (in_turn (part ∷ parts)) n opening did final) (sym (more_cycles part parts))
     ((on part.cycles part.issued (in_turn parts) opening did
@@ -81,8 +79,7 @@ led_to (part ∷ parts) drained opening final sound (middle, did, one, rest) =
 land_in_turn : (parts : List Part) → Drained parts → (opening : Machine) (did : Did) (final : Machine)
     → RunInTurn parts opening did final
     → LandOneByOne (in_turn parts) did ↔ LandInTurn parts did
-land_in_turn [] drained opening did final runs =
-    ((λ _. tt), (λ _ i j p q reg cycle at_p at_q h k. absurd (none-some p at_p)))
+land_in_turn [] drained opening did final runs = grind arith
 land_in_turn (part ∷ parts) drained opening did final (middle, one, rest) =
     let cut = (drained_cuts part.cycles part.issued (in_turn parts)).one_by_one opening did
     (first_drained part parts drained) one.run in
@@ -99,11 +96,3 @@ parts_run_in_turn parts drained opening final sound = record {
         drained opening final sound,
   );
 }
-
--- all parts have landed when the last is over
-pub all_drained : (parts : List Part) → Drained parts → AreDrained (cycles_of_all parts) (in_turn parts)
-all_drained [] drained = λ k d l. absurd (omega arith)
-all_drained (part ∷ parts) drained =
-    subst (λ n. AreDrained n (in_turn (part ∷ parts))) (sym (more_cycles part parts))
-    (both_drained part.cycles (cycles_of_all parts) part.issued (in_turn parts) (first_drained part parts drained)
-    (all_drained parts (rest_drained part parts drained)))

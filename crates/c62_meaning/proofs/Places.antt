@@ -1,13 +1,11 @@
 -- Accesses by their places, of constant offsets from one base register.
-use Rattle.std.proofs.Common.{◌≡◌, ℕ, ◌+◌, ◌-◌, ◌*◌, ◌%◌, ◌^◌, ℤ, List, [], ◌∷◌, ◌++◌, map, Option, Some, None}
-use Rattle.std.proofs.Common.{refl, sym, ◌∙◌, ap, subst, ◌≤◌, Bool, true, false, arith}
+use Rattle.std.proofs.Common.{◌≡◌, ℕ, ◌*◌, ◌%◌, ◌^◌, List, [], ◌∷◌, ◌++◌, map, Some}
+use Rattle.std.proofs.Common.{refl, sym, ◌∙◌, ap, subst, ◌≤◌, arith}
 use Rattle.std.specs.Prelude.{slice_index, if◌then◌else◌}
 use Rattle.std.proofs.lemmas.Option.{none-some, same_Some}
 use Rattle.c62_op.specs.declared.register.Reg.{Reg}
 use Rattle.c62_op.specs.declared.operands.Op.{Op}
 use Rattle.c62_op.specs.declared.operands.AddressForm.{AddressForm}
-use Rattle.c62_op.specs.declared.operands.AddressForm.TheVariants.{Plus, Minus, PreIncrement, PreDecrement}
-use Rattle.c62_op.specs.declared.operands.AddressForm.TheVariants.{PostIncrement, PostDecrement}
 use Rattle.c62_op.specs.declared.operands.Offset.TheVariants.{Constant as ByConstant, Register as ByRegister}
 use Rattle.c62_op.specs.declared.operands.Operands.{Operands}
 use Rattle.c62_op.specs.declared.operands.Operands.TheVariants.{Three, ConstantFirst, ConstantSecond, Two, Field}
@@ -21,28 +19,18 @@ use Rattle.c62_insn.specs.Insn.{op_of, operands_of, operand_reads}
 use Rattle.c62_insn.specs.Effect.{access_of, stored}
 use Rattle.c62_rules.specs.Disjoint.{Range, range_of}
 use Rattle.c62_rules.proofs.Ranges.{Covers, covers}
-use Rattle.c62_serial.specs.Memory.{place_from, placed_from}
+use Rattle.c62_serial.specs.Memory.{place_from}
 use Rattle.c62_meaning.proofs.Acting.{access_at, unplaced}
 
 -- the place of an address is the address that the place of its base register gives
 shifted : (form : AddressForm) (x d base : ℕ)
     → address_of form (place_from base x) (moved form (place_from base x) d) ≡ place_from base
     (address_of form x (moved form x d))
-shifted Plus x d base = omega arith
-shifted Minus x d base = omega arith
-shifted PreIncrement x d base = omega arith
-shifted PreDecrement x d base = omega arith
-shifted PostIncrement x d base = refl
-shifted PostDecrement x d base = refl
+shifted form x d base = grind arith
 
 base_read : (op : Op) (reg base : Reg) (words : Reg → ℕ)
     → slice_index (map words ((if is_store op then reg ∷ [] else []) ++ base ∷ [])) (base_index op) ≡ words base
-base_read op reg base words = by_store (is_store op)
-  where
-    by_store : (s : Bool)
-        → slice_index (map words ((if s then reg ∷ [] else []) ++ base ∷ [])) (if s then 1 else 0) ≡ words base
-    by_store true = refl
-    by_store false = refl
+base_read op reg base words = grind arith
 
 -- registers with the places of what they hold
 abbrev places : ℕ → (Reg → ℕ) → Reg → ℕ

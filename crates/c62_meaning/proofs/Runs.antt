@@ -5,7 +5,7 @@ use Rattle.std.proofs.lemmas.Bool.{cases_lt}
 use Rattle.std.specs.List.{flat_map}
 use Rattle.c62_op.specs.declared.register.Reg.{Reg}
 use Rattle.c62_op.specs.Units.{index_of as unit_index}
-use Rattle.c62_serial.specs.State.{Machine, index_of, word_in, byte_in}
+use Rattle.c62_serial.specs.State.{Machine, index_of, byte_in}
 use Rattle.c62_serial.specs.Effect.{Act, no_act, act_of}
 use Rattle.c62_packet.specs.declared.placed.Placed.{Placed}
 use Rattle.c62_meaning.specs.Landing.{latest, value_or}
@@ -57,8 +57,7 @@ same_stored (p ∷ ps) did did' t a same =
 
 pub same_words : (block : List Placed) (s : Machine) (did did' : Did) (t : ℕ) (reg : Reg) → Same block did did' t
     → word_before block s did t reg ≡ word_before block s did' t reg
-same_words block s did did' t reg same = ap (λ o. value_or o (word_in s reg))
-    (same_latest block did did' t (index_of reg) same)
+same_words block s did did' t reg same = grind (arith, same_latest block did did' t (index_of reg) same)
 
 pub same_bytes : (block : List Placed) (s : Machine) (did did' : Did) (t a : ℕ) → Same block did did' t
     → byte_before block s did t a ≡ byte_before block s did' t a
@@ -101,9 +100,7 @@ acts_settle : (block : List Placed) (s : Machine) (k m : ℕ) (p : Placed) → p
 unfolding acts_to
 acts_settle block s zero m p l u = absurd (omega arith)
 acts_settle block s (suc k) zero p l u = absurd (omega arith)
-acts_settle block s (suc k) (suc m) p l u =
-    act_after_same block s (acts_to block s k) (acts_to block s m) p
-    (λ q h v. acts_settle block s k m q (omega arith) (omega arith))
+acts_settle block s (suc k) (suc m) p l u = grind (arith, acts_settle block s k m, act_after_same block s)
 
 unfoldable pub the_run : List Placed → Machine → Did
 the_run block s p = acts_to block s (suc p.cycle) p
@@ -111,6 +108,4 @@ the_run block s p = acts_to block s (suc p.cycle) p
 -- each block has a run
 pub the_run_runs : (block : List Placed) (s : Machine) → IsRun block s (the_run block s)
 unfolding the_run acts_to
-the_run_runs block s p h =
-    act_after_same block s (acts_to block s p.cycle) (λ q. acts_to block s (suc q.cycle) q) p
-    (λ q k v. acts_settle block s p.cycle (suc q.cycle) q v (omega arith))
+the_run_runs block s p h = grind (arith, act_after_same, acts_settle)

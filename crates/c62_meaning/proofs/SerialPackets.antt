@@ -1,5 +1,5 @@
 -- Each block of packets has one meaning, and packets of a placed block are serial.
-use Rattle.std.proofs.Common.{◌≡◌, ℕ, suc, ◌<◌, true, List, [], ◌∷◌, length, map, get_or, refl, sym, ◌∙◌, ap, subst}
+use Rattle.std.proofs.Common.{◌≡◌, ℕ, suc, true, List, [], ◌∷◌, length, map, get_or, refl, sym, ◌∙◌, subst}
 use Rattle.std.proofs.Common.{inl, inr, pos, ◌-ℤ◌, arith}
 use Rattle.std.specs.Prelude.{fold}
 use Rattle.std.specs.List.{flat_map, range_with_len}
@@ -13,7 +13,7 @@ use Rattle.c62_read.specs.declared.block.SerialInsn.{SerialInsn}
 use Rattle.c62_read.specs.Block.{branch_last, operations}
 use Rattle.c62_serial.specs.declared.serial.Exit.{Exit}
 use Rattle.c62_serial.specs.declared.serial.Exit.TheVariants.{Next}
-use Rattle.c62_serial.specs.State.{Machine, IsSound, index_of}
+use Rattle.c62_serial.specs.State.{Machine, IsSound}
 use Rattle.c62_serial.specs.Effect.{Act, is_fault}
 use Rattle.c62_serial.specs.Serial.{Ran, exit_after, serial}
 use Rattle.c62_serial.proofs.BranchLemmas.{branch_ends}
@@ -48,19 +48,15 @@ state_one block cycles opening did one other p q = same_machine one other p.soun
 -- and one exit
 leaves_one : (block : List Placed) (cycles : ℕ) (opening : Machine) (did : Did) (one other : Ran)
     → Leaves block cycles opening did one → Leaves block cycles opening did other → one ≡ other
-leaves_one block cycles opening did one other p q =
-    let machine : one.machine ≡ other.machine = state_one block cycles opening did one.machine other.machine p.state
-    q.state in
-    let exit : one.exit ≡ other.exit = p.exit ∙ sym q.exit in
-    ap (λ (m : Machine). record { machine = m; exit = one.exit }) machine
-    ∙ ap (λ (e : Exit). record { machine = other.machine; exit = e }) exit
+leaves_one block cycles opening did one other p q = grind (
+  arith,
+  state_one block cycles opening did one.machine other.machine p.state q.state,
+)
 
 exit_same : (did did' : Did) (ps : List Placed) (exit : Exit) → ((p : Placed) → In p ps → did p ≡ did' p)
     → fold (λ exit p. exit_after exit (did p).target) exit ps ≡ fold (λ exit p. exit_after exit (did' p).target) exit ps
 exit_same did did' [] exit h = refl
-exit_same did did' (p ∷ ps) exit h =
-    ap (λ (a : Act). fold (λ exit p. exit_after exit (did p).target) (exit_after exit a.target) ps) (h p (inl refl))
-    ∙ exit_same did did' ps (exit_after exit (did' p).target) (λ q k. h q (inr k))
+exit_same did did' (p ∷ ps) exit h = grind (arith, exit_same did did' ps (exit_after exit (did' p).target))
 
 faulted_same : (block : List Placed) (did did' : Did) (line : ℕ) → ((p : Placed) → In p block → did p ≡ did' p)
     → HasFaulted block did line → HasFaulted block did' line
@@ -91,12 +87,11 @@ state_same block cycles opening did did' final same h = record {
 pub leaves_same : (block : List Placed) (cycles : ℕ) (opening : Machine) (did did' : Did) (ran : Ran)
     → ((p : Placed) → In p block → did p ≡ did' p)
     → Leaves block cycles opening did ran → Leaves block cycles opening did' ran
-leaves_same block cycles opening did did' ran same h =
-    record {
-      state = state_same block cycles opening did did' ran.machine same h.state;
-      exit = h.exit
-          ∙ exit_same did did' block Next same;
-    }
+leaves_same block cycles opening did did' ran same h = grind (
+  arith,
+  state_same block cycles opening did did' ran.machine same h.state,
+  exit_same did did' block Next same,
+)
 
 -- a meaning is what the run of the block leaves
 pub meaning_leaves : (block : List Placed) (cycles : ℕ) (opening : Machine) (ran : Ran) (did : Did)
@@ -132,23 +127,13 @@ made_sound block cycles opening did sound = record {
 
 pub made_leaves : (block : List Placed) (cycles : ℕ) (opening : Machine) (did : Did) → IsSound opening
     → LeavesState block cycles opening did (made block cycles opening did)
-made_leaves block cycles opening did sound = record {
-  sound = made_sound block cycles opening did sound;
-  base = refl;
-  words = λ reg.
-      let l : index_of reg < length opening.registers =
-      (let r : index_of reg < 32 = index_within reg in let n : length opening.registers ≡ 32 = sound.registers
-      in omega arith) in
-      get_or-map-range_with_len
-      (λ cell. value_before cell cycles (flat_map (register_landings did) block)
-      (get_or opening.registers cell 0)) 0 (length opening.registers) (index_of reg) (index_of reg) 0 l
-      (omega arith);
-  bytes = λ a u.
-      let l : a < length opening.memory = (let n : length opening.memory ≡ 65536 = sound.memory in omega arith) in
-      get_or-map-range_with_len (λ a. byte_before block opening did cycles a) 0 (length opening.memory) a a 0 l
-      (omega arith);
-  faults = λ line. lines_hold did opening.faults block line;
-}
+made_leaves block cycles opening did sound = grind (
+  arith,
+  made_sound block cycles opening did sound,
+  index_within,
+  get_or-map-range_with_len,
+  lines_hold did opening.faults block,
+)
 
 pub has_one_meaning : (block : List Placed) (cycles : ℕ) (opening : Machine) → IsSound opening
     → HasOneMeaning block cycles opening
@@ -168,12 +153,7 @@ has_one_meaning block cycles opening sound =
 -- what keeps all bounds keeps those of registers and memory
 data_placing : (insns : List SerialInsn) (placed : List Placed) (opening : Machine) → IsPlacing insns placed
     → IsPlacingBy (MetBounds insns opening) insns placed
-data_placing insns placed opening h = record {
-  count = h.count;
-  stands = h.stands;
-  keeps = λ i j p q bound at_p at_q asked. h.keeps i j p q bound at_p at_q
-      asked.bounds.bounds;
-}
+data_placing insns placed opening h = grind arith
 
 -- and that of a branch
 land_at : (insns : List SerialInsn) (placed : List Placed) (opening : Machine) → IsPlacing insns placed

@@ -1,6 +1,6 @@
 -- The writes of the instructions below a number, one after the other.
-use Rattle.std.proofs.Common.{◌≡◌, ℕ, zero, suc, ◌<◌, ◌≤◌, List, [], ◌++◌, subst, ⊎_elim, arith}
-use Rattle.std.proofs.lemmas.Bool.{cases_lt, cases_eq}
+use Rattle.std.proofs.Common.{◌≡◌, ℕ, zero, suc, ◌<◌, ◌≤◌, List, [], ◌++◌, ⊎_elim, arith}
+use Rattle.std.proofs.lemmas.Bool.{cases_lt}
 use Rattle.c62_meaning.specs.Landing.{Landing, value_before}
 use Rattle.c62_meaning.proofs.Lookup.{In, In-append_left, In-append_right, In-append_cases, last_value, InOrder}
 use Rattle.c62_meaning.proofs.Lookup.{InOrder-append, latest_is_last}
@@ -11,17 +11,11 @@ upto f (suc i) = upto f i ++ f i
 
 pub from_In-upto : (f : ℕ → List Landing) (i : ℕ) (w : Landing) → In w (upto f i) → (j : ℕ) × (j < i) × In w (f j)
 from_In-upto f zero w h = absurd h
-from_In-upto f (suc i) w h =
-    ⊎_elim (λ a. let r = from_In-upto f i w a in let l : r.0 < i = r.1 in (r.0, omega arith, r.2))
-    (λ b. (i, omega arith, b)) (In-append_cases w (upto f i) (f i) h)
+from_In-upto f (suc i) w h = grind (arith, from_In-upto f i w, In-append_cases w)
 
 pub In-upto : (f : ℕ → List Landing) (i j : ℕ) (w : Landing) → j < i → In w (f j) → In w (upto f i)
 In-upto f zero j w l h = absurd (omega arith)
-In-upto f (suc i) j w l h =
-    ⊎_elim
-    (λ e. In-append_right w (upto f i) (f i) (subst (λ k. In w (f k)) e h))
-    (λ ne. In-append_left w (upto f i) (f i) (In-upto f i j w (omega arith) h))
-    (cases_eq j i)
+In-upto f (suc i) j w l h = grind (arith, In-upto f i j w, In-append_right w, In-append_left w)
 
 -- The writes of one cell, of instructions in serial order, come in the order of time.
 pub record AreOrdered (f : ℕ → List Landing) (n cell : ℕ) : Type 0 where

@@ -1,9 +1,8 @@
 -- Packets that are alike but for lines have the same chain.
 use Rattle.std.proofs.Common.{◌≡◌, ℕ, ◌<◌, true, false, List, [], ◌∷◌, length, map, get_or, slice_get, Some, refl}
 use Rattle.std.proofs.Common.{sym, ◌∙◌, ap, subst, ◌⊎◌, inl, inr, arith}
-use mathlib.Core.Path.{fun_ext}
-use Rattle.std.specs.Prelude.{◌↔◌, ◌==◌, ◌&&◌, ◌||◌, Contains, sum_by}
-use Rattle.std.proofs.lemmas.Bool.{false≢true, or_cases, or_left, or_right, and_parts, and_from, eqb-true, eq-eqb}
+use Rattle.std.specs.Prelude.{◌↔◌, ◌==◌, ◌&&◌, ◌||◌, Contains}
+use Rattle.std.proofs.lemmas.Bool.{or_cases, or_left, or_right, and_parts, and_from, eqb-true, eq-eqb}
 use Rattle.std.proofs.lemmas.List.{get_or_default, length-map}
 use Rattle.std.proofs.lemmas.Option.{slice_get-get_or, get_or_from_slice_get, slice_get_within}
 use Rattle.std.proofs.Math.ListN.{get_or-map}
@@ -44,14 +43,7 @@ with_block places number acts other position = places other position ||
 -- nothing ran
 none_faulted : (packets : List Packed) (opening final : Machine) → final ≡ opening
     → HaveFaulted packets no_place opening final
-none_faulted packets opening final e line = (
-  (λ c. inl (subst (λ (m : Machine). Contains m.faults line) e c)),
-  (λ h. elim h [
-    | inl c ↦ subst (λ (m : Machine). Contains m.faults line) (sym e) c
-    | inr s ↦ absurd
-        (false≢true s.inside)
-  ]),
-)
+none_faulted packets opening final e line = grind arith
 
 -- one block ran, and then the rest
 record RanFirst (packets : List Packed) (number : ℕ) (did : Did) (acts : List Act) (places : Places)
@@ -212,9 +204,7 @@ lead_alike packets others opening opening' final position last (number ∷ numbe
 
 cycles_alike : (packets others : List Packed) (numbers : List ℕ) → AreAlike packets others
     → cycles_taken packets numbers ≡ cycles_taken others numbers
-cycles_alike packets others numbers alike =
-    ap (λ (cycles : ℕ → ℕ). sum_by cycles numbers)
-    (fun_ext (λ number. ap (λ (u : Unlined). u.cycles) (block_alike packets others number alike)))
+cycles_alike packets others numbers alike = grind (arith, block_alike packets others)
 
 pub chain_alike : (packets others : List Packed) (opening opening' : Machine) (limit : ℕ)
     → ChainAlike packets others opening opening' limit

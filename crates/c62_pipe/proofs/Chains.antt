@@ -1,5 +1,5 @@
 -- Chains of packet blocks: how they go on, and that those of a program are the program's.
-use Rattle.std.proofs.Common.{◌≡◌, ◌≢◌, ℕ, ◌+◌, ◌*◌, ◌<◌, ◌≤◌, List, [], ◌∷◌, ◌++◌, length, refl, ◌∙◌, sym, ap, subst}
+use Rattle.std.proofs.Common.{◌≡◌, ℕ, ◌+◌, ◌*◌, ◌<◌, ◌≤◌, List, [], ◌∷◌, ◌++◌, length, refl, ◌∙◌, sym, ap, subst}
 use Rattle.std.proofs.Common.{get_or, arith}
 use Rattle.std.specs.Prelude.{sum_by}
 use Rattle.std.proofs.lemmas.List.{get_or_read, length-append}
@@ -9,9 +9,9 @@ use Rattle.c62_read.specs.Block.{Serial}
 use Rattle.c62_serial.specs.declared.serial.Exit.{Exit}
 use Rattle.c62_serial.specs.declared.chain.End.TheVariants.{End as FellThrough, Limit}
 use Rattle.c62_serial.specs.declared.chain.Chain.{Chain}
-use Rattle.c62_serial.specs.State.{Machine, Contents, IsSound}
+use Rattle.c62_serial.specs.State.{Machine, IsSound}
 use Rattle.c62_serial.specs.Serial.{Ran}
-use Rattle.c62_serial.specs.Chain.{Standing, Ended, At, Position, position_at, position_after, Leads, IsStopped}
+use Rattle.c62_serial.specs.Chain.{Standing, At, Position, position_at, position_after, Leads, IsStopped}
 use Rattle.c62_serial.specs.Chain.{IsChain, IsDetermined, chain_of, serial_blocks, no_block as no_serial_block}
 use Rattle.c62_serial.specs.Chain.{block_of as serial_block_of}
 use Rattle.c62_serial.proofs.MachineLemmas.{sound_run}
@@ -19,9 +19,10 @@ use Rattle.c62_serial.proofs.ChainLemmas.{leads_nowhere, leads_on, at_block, pas
 use Rattle.c62_packet.specs.Packed.{Packed}
 use Rattle.c62_meaning.specs.Meaning.{IsMeaning}
 use Rattle.c62_meaning.proofs.SerialPackets.{are_serial, one_meaning}
-use Rattle.c62_pipe.specs.Chain.{no_block, block_of, packet_blocks, cycles_taken, RunsPackets, LacksRoom, IsBlockPacked}
+use Rattle.c62_pipe.specs.Chain.{no_block, block_of, packet_blocks, cycles_taken, RunsPackets, IsBlockPacked}
 use Rattle.c62_pipe.specs.Chain.{ArePacked, RunsAsProgram}
 use Rattle.c62_packet.specs.declared.limits.TheConstants.{MOST_CYCLES}
+use Rattle.std.proofs.lemmas.Bool.Decides.{nat_tests}
 
 -- ---- the run of a chain
 
@@ -36,14 +37,7 @@ pub record Turn (packets : List Packed) (opening machine : Machine) (number bloc
   pub within : blocks ≤ limit
 
 pub first_turn : (packets : List Packed) (machine : Machine) (limit : ℕ) → Turn packets machine machine 0 0 0 limit
-first_turn packets machine limit = record {
-  numbers = [];
-  stands = leads_nowhere (length packets) (packet_blocks packets) machine (position_at (length packets) 0);
-  counted = refl;
-  taken = refl;
-  few = omega arith;
-  within = omega arith;
-}
+first_turn packets machine limit = grind (arith, nat_tests, leads_nowhere)
 
 -- the blocks so far, with one more
 pub record More (packets : List Packed) (opening next : Machine) (number blocks cycles : ℕ) (exit : Exit) : Type 0 where
@@ -108,14 +102,12 @@ pub packets_fall_through : (packets all : List Packed) (opening machine : Machin
     → all ≡ packets → length all ≤ number
     → Turn packets opening machine number blocks cycles limit
     → RunsPackets packets opening limit (record { blocks = blocks; stop = FellThrough }) cycles machine
-packets_fall_through packets all opening machine number blocks cycles limit e past turn =
-    let beyond : length packets ≤ number = rw (← e) past in
-    let P : Position → Type 0 = λ position. Leads (length packets) (packet_blocks packets) opening
-    (position_at (length packets) 0) turn.numbers machine position in
-    packets_end packets opening machine turn.numbers (Ended FellThrough) limit cycles
-    (record { blocks = blocks; stop = FellThrough })
-    (subst P (past_end (length packets) number beyond) turn.stands) (omega (arith, turn.counted, turn.within))
-    (rw turn.counted refl) turn.taken
+packets_fall_through packets all opening machine number blocks cycles limit e past turn = grind (
+  arith,
+  nat_tests,
+  packets_end,
+  past_end,
+)
 
 -- a run that stands at a block when the limit is reached has ended
 pub packets_at_limit : (packets all : List Packed) (opening machine : Machine) (number cycles limit : ℕ) → all ≡ packets
@@ -128,27 +120,6 @@ packets_at_limit packets all opening machine number cycles limit e h turn =
     (position_at (length packets) 0) turn.numbers machine position in
     packets_end packets opening machine turn.numbers (At number) limit cycles (record { blocks = limit; stop = Limit })
     (subst P (at_block (length packets) number inside) turn.stands) turn.counted (rw turn.counted refl) turn.taken
-
--- a run for whose next block there is no room
-pub packets_lack_room : (packets all : List Packed) (opening : Machine) (number blocks cycles limit : ℕ)
-    (block : Packed) (left : Contents) → all ≡ packets
-    → number < length all → block ≡ get_or all number block
-    → Turn packets opening left.machine number blocks cycles limit → blocks ≢ limit
-    → left.room < length block.placed → LacksRoom packets opening limit left
-packets_lack_room packets all opening number blocks cycles limit block left e h found turn below full =
-    let inside : number < length packets = rw (← e) h in
-    let same : block ≡ block_of packets number = rw (← e) (get_or_read all number block h found no_block) in
-    let P : Position → Type 0 = λ position. Leads (length packets) (packet_blocks packets) opening
-    (position_at (length packets) 0) turn.numbers left.machine position in
-    record {
-      number = number;
-      start = record {
-        numbers = turn.numbers;
-        stands = subst P (at_block (length packets) number inside) turn.stands;
-        fewer = omega (arith, turn.counted, turn.within, below);
-      };
-      room = rw (← same) full;
-    }
 
 -- a block has one meaning, which leaves a sound machine
 pub packets_determined : (packets : List Packed) → IsDetermined (length packets) (packet_blocks packets)

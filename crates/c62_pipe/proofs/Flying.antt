@@ -1,10 +1,10 @@
 -- What is in flight while a pipe runs, at its start and where an instruction is issued.
 use Rattle.std.proofs.Common.{◌≡◌, ℕ, ◌+◌, ◌*◌, ◌<◌, ◌≤◌, List, [], ◌∷◌, ◌++◌, length, length-append, get_or, take}
-use Rattle.std.proofs.Common.{drop, Option, Some, None, refl, sym, ◌∙◌, ap, subst, inl, inr, ⊎_elim, arith}
+use Rattle.std.proofs.Common.{drop, Option, None, refl, sym, ◌∙◌, ap, subst, inl, inr, ⊎_elim, arith}
 use Rattle.std.specs.Prelude.{fold}
 use Rattle.std.specs.List.{flat_map}
 use Rattle.std.specs.List.Sorted.{IsStrictlyIncreasing}
-use Rattle.std.proofs.lemmas.Bool.{cases_Bool, cond-false, cond_both, and_right, le-ltb}
+use Rattle.std.proofs.lemmas.Bool.{cond-false, cond_both, and_right, le-ltb}
 use Rattle.std.proofs.lemmas.List.{take_more, drop_more, take-append-drop, append-nil}
 use Rattle.std.proofs.lemmas.List.Sums.{fold-append}
 use Rattle.std.proofs.lemmas.Grind.{flat_map-append}
@@ -12,17 +12,16 @@ use Rattle.c62_op.specs.declared.register.Reg.{Reg}
 use Rattle.c62_insn.specs.declared.effect.Access.{Access as MemoryAccess}
 use Rattle.c62_op.specs.Units.{index_of as unit_index}
 use Rattle.c62_op.proofs.UnitOrder.{index_of-below}
-use Rattle.c62_serial.specs.State.{Machine, IsSound, index_of, word_in, byte_in}
-use Rattle.c62_serial.specs.Memory.{is_good}
+use Rattle.c62_serial.specs.State.{Machine, IsSound, word_in, byte_in}
 use Rattle.c62_serial.specs.Faults.{after_fault, with_fault_if}
 use Rattle.c62_serial.specs.Effect.{Act, is_fault}
-use Rattle.c62_serial.specs.Serial.{after_store, after_access}
+use Rattle.c62_serial.specs.Serial.{after_access}
 use Rattle.c62_serial.proofs.FaultLemmas.{joined_rises}
 use Rattle.c62_serial.proofs.MemoryLemmas.{stores}
 use Rattle.c62_packet.specs.declared.placed.Placed.{Placed}
 use Rattle.c62_packet.specs.Packed.{listing_position}
-use Rattle.c62_meaning.specs.Landing.{Landing, latest, value_or}
-use Rattle.c62_meaning.specs.Packet.{register_landings, memory_landings, access_landings, access_time, word_before}
+use Rattle.c62_meaning.specs.Landing.{Landing, latest}
+use Rattle.c62_meaning.specs.Packet.{memory_landings, access_landings, access_time, word_before}
 use Rattle.c62_meaning.specs.Packet.{byte_before}
 use Rattle.c62_meaning.proofs.Lookup.{In, Contains_from_In, In-append_right, In-append_cases, last_value}
 use Rattle.c62_meaning.proofs.Lookup.{last_value-append}
@@ -30,7 +29,7 @@ use Rattle.c62_meaning.proofs.Acting.{act_same}
 use Rattle.c62_meaning.proofs.Landings.{access-last}
 use Rattle.c62_meaning.proofs.Runs.{the_run, the_run_runs}
 use Rattle.c62_meaning.proofs.Faulted.{lines_after}
-use Rattle.c62_pipe.specs.Flight.{Store, Flight, due, with_writes, FitsSlots, stores_at, stores_of, act_at, issued}
+use Rattle.c62_pipe.specs.Flight.{Store, Flight, due, with_writes, FitsSlots, stores_of, act_at, issued}
 use Rattle.c62_pipe.specs.Flight.{stored}
 use Rattle.c62_pipe.proofs.Order.{Ascends, ascends, parts_at}
 use Rattle.c62_pipe.proofs.Slots.{due_of, due_in, length-writes, due_writes, act_soon, few_due, fits}
@@ -70,24 +69,7 @@ nothing_before cell (x ∷ xs) = cond-false _ _ _ (and_right _ _ (le-ltb x.time 
 pub start : (block : List Placed) (opening : Machine) (flight : Flight) → IsSound opening → length flight.slots ≡ 5
     → ((t : ℕ) → due flight.slots t ≡ [])
     → flight.stores ≡ [] → Flying block opening 0 0 0 flight opening
-start block opening flight sound size none empty = record {
-  within = omega arith;
-  sound = sound;
-  base = refl;
-  words = λ reg. sym (ap (λ o. value_or o (word_in opening reg))
-      (nothing_before (index_of reg) (flat_map (register_landings (the_run block opening)) block)));
-  bytes = λ a. sym (ap (λ o. value_or o (byte_in opening a))
-      (nothing_before a (flat_map (memory_landings (the_run block opening)) block)));
-  pending = λ a. ap (λ ss. get_or (fold stored opening.memory ss) a 0) empty;
-  slots = size;
-  flying = λ t a b. none t;
-  space = λ t a b. let e : length (due flight.slots t) ≡ 0 = ap length (none t) in omega arith;
-  few = let e : length flight.stores ≡ 0 = ap length empty in omega arith;
-  low = omega arith;
-  ahead = λ p h. omega arith;
-  early = λ p h. absurd h;
-  lines = refl;
-}
+start block opening flight sound size none empty = grind (arith, nothing_before)
 
 -- ---- an instruction is issued
 
@@ -104,42 +86,22 @@ pub does : (block : List Placed) (opening : Machine) (cycle next upto : ℕ) (fl
     (p : Placed)
     → Flying block opening cycle next upto flight machine → In p block → p.cycle ≡ cycle
     → act_at p machine ≡ the_run block opening p
-does block opening cycle next upto flight machine p h i e =
-    act_same p.insn machine.base opening.base (word_in machine)
-    (word_before block opening (the_run block opening) p.cycle) (byte_in machine)
-    (byte_before block opening (the_run block opening) p.cycle) h.base
-    (λ reg r. h.words reg ∙ ap (λ c. word_before block opening (the_run block opening) c reg) (sym e))
-    (λ a r. h.bytes a ∙ ap (λ c. byte_before block opening (the_run block opening) c a) (sym e))
-    ∙ sym (the_run_runs block opening p (Contains_from_In p block i))
+does block opening cycle next upto flight machine p h i e = grind (
+  arith,
+  act_same p.insn machine.base opening.base (word_in machine) (word_before block opening (the_run block opening)
+      p.cycle) (byte_in machine) (byte_before block opening (the_run block opening) p.cycle) h.base,
+  the_run_runs block opening p (Contains_from_In p block i),
+)
 
 pub length-stored : (memory : List ℕ) (ss : List Store) → length memory ≡ 65536 → length (fold stored memory ss) ≡ 65536
 length-stored memory [] l = l
-length-stored memory (s ∷ ss) l = length-stored (stored memory s) ss (one s)
-  where
-    one : (s : Store) → length (stored memory s) ≡ 65536
-    one s =
-        ⊎_elim {C = length (stored memory s) ≡ 65536}
-        (λ good. (stores memory s.0 s.1 s.2 l good).size_stays ∙ l)
-        (λ bad. ap length (cond-false _ _ memory bad) ∙ l)
-        (cases_Bool (is_good s.0 s.1))
+length-stored memory (s ∷ ss) l = grind (arith, length-stored (stored memory s) ss, stores memory s.0 s.1 s.2 l)
 
 stored_access : (memory : List ℕ) (o : Option MemoryAccess) → fold stored memory (stores_of o) ≡ after_access memory o
-stored_access memory None = refl
-stored_access memory (Some access) = of_value access.value
-  where
-    of_value : (value : Option ℕ)
-        → fold stored memory (stores_at access.address access.size value) ≡ after_store memory value access.address
-        access.size
-    of_value None = refl
-    of_value (Some value) = refl
+stored_access memory o = grind arith
 
 few_stores : (o : Option MemoryAccess) → length (stores_of o) ≤ 1
-few_stores None = omega arith
-few_stores (Some access) = of_value access.value
-  where
-    of_value : (value : Option ℕ) → length (stores_at access.address access.size value) ≤ 1
-    of_value None = omega arith
-    of_value (Some value) = omega arith
+few_stores o = grind arith
 
 -- what its issue asks
 pub record IsReady (cycle : ℕ) (p : Placed) (machine : Machine) (flight : Flight) : Type 0 where
@@ -150,17 +112,14 @@ pub is_ready : (block : List Placed) (opening : Machine) (cycle next upto : ℕ)
     (p : Placed)
     → Flying block opening cycle next upto flight machine → In p (drop next block) → p.cycle ≡ cycle
     → IsReady cycle p machine flight
-is_ready block opening cycle next upto flight machine p h i e =
-    let at = position_of p in
-    let after : upto ≤ listing_position p = h.ahead p i in
-    let below : listing_position p < 8 * p.cycle + 8 = at.1 in
-    record {
-      few = (let r : 8 * cycle + length flight.stores ≤ upto = h.few in omega arith);
-      fits = fits cycle p.line (act_at p machine).writes flight.slots h.slots
-          (act_soon p.insn machine.base (word_in machine) (byte_in machine))
-          (λ t. few_due t cycle p.line p.insn machine.base (word_in machine) (byte_in machine))
-          (λ t from soon. let r : 8 * t + length (due flight.slots t) ≤ upto + 32 = h.space t from soon in omega arith);
-    }
+is_ready block opening cycle next upto flight machine p h i e = grind (
+  arith,
+  position_of p,
+  fits cycle p.line (act_at p machine).writes flight.slots h.slots (act_soon p.insn machine.base (word_in machine)
+      (byte_in machine)),
+  act_soon p.insn machine.base (word_in machine) (byte_in machine),
+  few_due,
+)
 
 pub issue_step : (block : List Placed) (opening : Machine) (cycle next upto : ℕ) (flight : Flight) (machine : Machine)
     (p : Placed) → Ascends block
@@ -251,5 +210,4 @@ issue_step block opening cycle next upto flight machine p ascends h l found e =
     }
   where
     last_early : (q : Placed) → In q (p ∷ []) → q.cycle ≤ cycle
-    last_early q (inl s) = let f : p.cycle ≡ q.cycle = ap (λ (z : Placed). z.cycle) s in omega arith
-    last_early q (inr k) = absurd k
+    last_early q h = grind arith

@@ -1,11 +1,11 @@
 -- Registers and memory at the end of a cycle.
-use Rattle.std.proofs.Common.{◌≡◌, ℕ, suc, ◌+◌, ◌*◌, ◌<◌, ◌≤◌, Bool, true, false, List, [], ◌∷◌, ◌++◌, length, get_or}
-use Rattle.std.proofs.Common.{set, map, take, drop, cond, eqb, ltb, ◌&&◌, Option, Some, None, refl, sym, ◌∙◌, ap, subst}
+use Rattle.std.proofs.Common.{◌≡◌, ℕ, suc, ◌+◌, ◌*◌, ◌<◌, ◌≤◌, Bool, false, List, [], ◌∷◌, ◌++◌, length, get_or}
+use Rattle.std.proofs.Common.{set, map, take, drop, cond, eqb, ◌&&◌, Option, Some, None, refl, sym, ◌∙◌, ap, subst}
 use Rattle.std.proofs.Common.{◌⊎◌, inl, inr, ⊎_elim, arith}
 use Rattle.std.specs.Prelude.{fold}
 use Rattle.std.specs.List.{flat_map}
-use Rattle.std.proofs.lemmas.Bool.{cases_eq, cases_order, cond-true, cond-false, eq-eqb, ne_eqb, eqb-true, lt-ltb}
-use Rattle.std.proofs.lemmas.Bool.{le-ltb, and_parts, and_right}
+use Rattle.std.proofs.lemmas.Bool.{cases_eq, cond-true, cond-false, eq-eqb, ne_eqb}
+use Rattle.std.proofs.lemmas.Bool.{and_right}
 use Rattle.std.proofs.lemmas.List.{length-set, get_or-set_other, take-append-drop}
 use Rattle.std.proofs.lemmas.Grind.{get_or-set_at, flat_map-append}
 use Rattle.c62_op.specs.declared.register.Reg.{Reg}
@@ -17,12 +17,13 @@ use Rattle.c62_packet.specs.Packed.{listing_position}
 use Rattle.c62_meaning.specs.Landing.{Landing, later, latest, value_or}
 use Rattle.c62_meaning.specs.Packet.{Did, write_landing, access_time, register_landings, memory_landings, word_before}
 use Rattle.c62_meaning.specs.Packet.{byte_before}
-use Rattle.c62_meaning.proofs.Lookup.{In, In-flat_map, from_In-flat_map, latest_cases, LatestCases, last_value, InOrder}
+use Rattle.c62_meaning.proofs.Lookup.{In, In-flat_map, from_In-flat_map, latest_cases, last_value, InOrder}
 use Rattle.c62_meaning.proofs.Lookup.{InOrder-append, latest_is_last}
 use Rattle.c62_meaning.proofs.Landings.{from_In-writes, from_In-access, InOrder-access}
-use Rattle.c62_pipe.specs.Flight.{Slot, made_by, landed}
+use Rattle.c62_pipe.specs.Flight.{Slot, landed}
 use Rattle.c62_pipe.proofs.Order.{Ascends, In-take, In-parts, parts_at}
 use Rattle.c62_pipe.proofs.Slots.{due_of, due_in}
+use Rattle.std.proofs.lemmas.Bool.Decides.{nat_tests}
 
 -- ---- landings at one time
 
@@ -36,45 +37,31 @@ last_at cell t [] = None
 last_at cell t (w ∷ ws) = or_else (last_at cell t ws) (cond (eqb w.cell cell && eqb w.time t) (Some w) None)
 
 or_none : (o : Option Landing) → or_else o None ≡ o
-or_none None = refl
-or_none (Some w) = refl
+or_none o = grind arith
 
 value_or_else : (o p : Option Landing) (old : ℕ) → value_or (or_else o p) old ≡ value_or o (value_or p old)
-value_or_else None p old = refl
-value_or_else (Some w) p old = refl
+value_or_else o p old = grind arith
 
 time_of_last : (cell t : ℕ) (x w : Landing) (o : Option Landing) → ((v : Landing) → o ≡ Some v → v.time ≡ t)
     → (b : Bool) → (eqb x.cell cell && eqb x.time t) ≡ b
     → or_else o (cond b (Some x) None) ≡ Some w → w.time ≡ t
-time_of_last cell t x w (Some v) rest b h e = rest w e
-time_of_last cell t x w None rest true h e =
-    let same : x ≡ w = cc in ap (λ (u : Landing). u.time) (sym same)
-    ∙ eqb-true x.time t (and_parts (eqb x.cell cell) (eqb x.time t) h).1
-time_of_last cell t x w None rest false h e = cc
+time_of_last cell t x w o rest b h e = grind arith
 
 last_at_time : (cell t : ℕ) (ls : List Landing) (w : Landing) → last_at cell t ls ≡ Some w → w.time ≡ t
 last_at_time cell t [] w e = cc
-last_at_time cell t (x ∷ xs) w e = time_of_last cell t x w (last_at cell t xs) (λ v h. last_at_time cell t xs v h)
-    (eqb x.cell cell && eqb x.time t) refl e
+last_at_time cell t (x ∷ xs) w e = grind (arith, last_at_time cell t xs, time_of_last cell t x w)
 
 latest_time : (cell t : ℕ) (ls : List Landing) (y : Landing) → latest cell t ls ≡ Some y → y.time < t
-latest_time cell t ls y e = go (latest_cases cell t ls)
-  where
-    go : LatestCases cell t ls → y.time < t
-    go (inl (none, q)) = cc
-    go (inr (w, i, q)) = let same : w ≡ y = cc in subst (λ (u : Landing). u.time < t) same i.early
+latest_time cell t ls y e = grind (arith, latest_cases cell t ls)
 
 merge_early : (x : Landing) (a l : Option Landing) → ((v : Landing) → a ≡ Some v → x.time ≤ v.time)
     → Some (later x (or_else a l)) ≡ or_else a (Some (later x l))
-merge_early x (Some v) l h = ap Some (cond-false _ x v (le-ltb v.time x.time (h v refl)))
-merge_early x None l h = refl
+merge_early x a l h = grind arith
 
 merge_now : (x : Landing) (a l : Option Landing) → ((v : Landing) → a ≡ Some v → x.time ≤ v.time)
     → ((y : Landing) → l ≡ Some y → y.time < x.time)
     → Some (later x (or_else a l)) ≡ or_else a (Some x)
-merge_now x (Some v) l h k = ap Some (cond-false _ x v (le-ltb v.time x.time (h v refl)))
-merge_now x None None h k = refl
-merge_now x None (Some y) h k = ap Some (cond-true _ x y (lt-ltb y.time x.time (k y refl)))
+merge_now x a l h k = grind arith
 
 -- one landing more before the next time
 head_next : (cell t : ℕ) (x : Landing) (xs : List Landing)
@@ -82,63 +69,25 @@ head_next : (cell t : ℕ) (x : Landing) (xs : List Landing)
     ⊎ (x.cell ≡ cell → ⊥)
     → (x.time < t) ⊎ ((x.time ≡ t) ⊎ (t < x.time))
     → latest cell (suc t) (x ∷ xs) ≡ or_else (last_at cell t (x ∷ xs)) (latest cell t (x ∷ xs))
-head_next cell t x xs rest (inr ne) order =
-    let p : eqb x.cell cell ≡ false = ne_eqb _ _ ne in
-    rw p (rest ∙ ap (λ o. or_else o (latest cell t xs)) (sym (or_none (last_at cell t xs))))
-head_next cell t x xs rest (inl e) (inl lt) =
-    let p : eqb x.cell cell ≡ true = eq-eqb _ _ e in
-    let q : ltb x.time (suc t) ≡ true = lt-ltb _ _ (omega arith) in
-    let r : ltb x.time t ≡ true = lt-ltb _ _ lt in
-    let s : eqb x.time t ≡ false = ne_eqb _ _ (λ (f : x.time ≡ t). omega arith) in
-    rw (p, q, r, s) (
-    ap (λ o. Some (later x o)) rest
-    ∙ merge_early x (last_at cell t xs) (latest cell t xs)
-    (λ v h. let f : v.time ≡ t = last_at_time cell t xs v h in omega arith)
-    ∙ ap (λ o. or_else o (Some (later x (latest cell t xs)))) (sym (or_none (last_at cell t xs))))
-head_next cell t x xs rest (inl e) (inr (inl at)) =
-    let p : eqb x.cell cell ≡ true = eq-eqb _ _ e in
-    let q : ltb x.time (suc t) ≡ true = lt-ltb _ _ (omega arith) in
-    let r : ltb x.time t ≡ false = le-ltb _ _ (omega arith) in
-    let s : eqb x.time t ≡ true = eq-eqb _ _ at in
-    rw (p, q, r, s) (
-    ap (λ o. Some (later x o)) rest
-    ∙ merge_now x (last_at cell t xs) (latest cell t xs)
-    (λ v h. let f : v.time ≡ t = last_at_time cell t xs v h in omega arith)
-    (λ y h. let f : y.time < t = latest_time cell t xs y h in omega arith)
-    ∙ sym (some_else (last_at cell t xs)))
-  where
-    some_else : (o : Option Landing) → or_else (or_else o (Some x)) (latest cell t xs) ≡ or_else o (Some x)
-    some_else None = refl
-    some_else (Some v) = refl
-head_next cell t x xs rest (inl e) (inr (inr gt)) =
-    let p : eqb x.cell cell ≡ true = eq-eqb _ _ e in
-    let q : ltb x.time (suc t) ≡ false = le-ltb _ _ (omega arith) in
-    let r : ltb x.time t ≡ false = le-ltb _ _ (omega arith) in
-    let s : eqb x.time t ≡ false = ne_eqb _ _ (λ (f : x.time ≡ t). omega arith) in
-    rw (p, q, r, s) (rest ∙ ap (λ o. or_else o (latest cell t xs)) (sym (or_none (last_at cell t xs))))
+head_next cell t x xs rest (inr ne) order = grind (arith, or_none)
+head_next cell t x xs rest (inl e) (inl lt) = grind (arith, merge_early x, last_at_time cell t xs, or_none)
+head_next cell t x xs rest (inl e) (inr (inl at)) = grind (
+  arith,
+  merge_now x,
+  last_at_time cell t xs,
+  latest_time cell t xs,
+)
+head_next cell t x xs rest (inl e) (inr (inr gt)) = grind (arith, or_none)
 
 -- what stands before the next time is what landed at this one, else what stood before
 latest-next : (cell t : ℕ) (ls : List Landing) → latest cell (suc t) ls ≡ or_else (last_at cell t ls) (latest cell t ls)
 latest-next cell t [] = refl
-latest-next cell t (x ∷ xs) = head_next cell t x xs (latest-next cell t xs) (cases_eq x.cell cell) order
-  where
-    order : (x.time < t) ⊎ ((x.time ≡ t) ⊎ (t < x.time))
-    order = ⊎_elim {C = (x.time < t)
-        ⊎ ((x.time ≡ t) ⊎ (t < x.time))} (λ e. inr (inl e)) (λ o. ⊎_elim {C = (x.time < t)
-        ⊎ ((x.time ≡ t) ⊎ (t < x.time))} (λ l. inl l) (λ g. inr (inr g)) o) (cases_order x.time t)
+latest-next cell t (x ∷ xs) = grind (arith, nat_tests, latest-next cell t xs, head_next)
 
 last_at-append : (cell t : ℕ) (xs ys : List Landing)
     → last_at cell t (xs ++ ys) ≡ or_else (last_at cell t ys) (last_at cell t xs)
 last_at-append cell t [] ys = sym (or_none (last_at cell t ys))
-last_at-append cell t (x ∷ xs) ys =
-    ap (λ o. or_else o (cond (eqb x.cell cell && eqb x.time t) (Some x) None)) (last_at-append cell t xs ys)
-    ∙ assoc (last_at cell t ys)
-  where
-    assoc : (o : Option Landing)
-        → or_else (or_else o (last_at cell t xs)) (cond (eqb x.cell cell && eqb x.time t) (Some x) None)
-        ≡ or_else o (or_else (last_at cell t xs) (cond (eqb x.cell cell && eqb x.time t) (Some x) None))
-    assoc None = refl
-    assoc (Some v) = refl
+last_at-append cell t (x ∷ xs) ys = grind (arith, last_at-append cell t xs ys)
 
 none_at : (cell t : ℕ) (ls : List Landing) → ((w : Landing) → In w ls → w.time ≡ t → ⊥) → last_at cell t ls ≡ None
 none_at cell t [] h = refl
@@ -176,27 +125,10 @@ last_pair-append : (cell : ℕ) (xs ys : Slot) (old : ℕ)
 last_pair-append cell [] ys old = refl
 last_pair-append cell (x ∷ xs) ys old = last_pair-append cell xs ys (cond (eqb (index_of x.reg) cell) x.word old)
 
-head_pair : (cell t c line : ℕ) (w : (Reg × ℕ) × ℕ) (slot : Slot) (a : Option Landing) (old : ℕ)
-    → ((u : ℕ) → last_pair cell slot u ≡ value_or a u)
-    → (x y : Bool) → eqb (index_of w.0.0) cell ≡ y
-    → last_pair cell (cond x (made_by line w ∷ slot) slot) old ≡ value_or
-    (or_else a (cond (y && x) (Some (write_landing c w)) None)) old
-head_pair cell t c line w slot a old rest true true e =
-    rest (cond (eqb (index_of w.0.0) cell) w.1 old) ∙ ap (λ v. value_or a v) (cond-true _ _ _ e)
-    ∙ sym (value_or_else a (Some (write_landing c w)) old)
-head_pair cell t c line w slot a old rest true false e =
-    rest (cond (eqb (index_of w.0.0) cell) w.1 old) ∙ ap (λ v. value_or a v) (cond-false _ _ _ e)
-    ∙ sym (value_or_else a None old)
-head_pair cell t c line w slot a old rest false true e = rest old ∙ sym (value_or_else a None old)
-head_pair cell t c line w slot a old rest false false e = rest old ∙ sym (value_or_else a None old)
-
 pairs_of : (cell t c line : ℕ) (ws : List ((Reg × ℕ) × ℕ)) (old : ℕ)
     → last_pair cell (due_of t c line ws) old ≡ value_or (last_at cell t (map (write_landing c) ws)) old
 pairs_of cell t c line [] old = refl
-pairs_of cell t c line (w ∷ ws) old =
-    head_pair cell t c line w (due_of t c line ws) (last_at cell t (map (write_landing c) ws)) old
-    (λ u. pairs_of cell t c line ws u)
-    (eqb (c + w.0.1) t) (eqb (index_of w.0.0) cell) refl
+pairs_of cell t c line (w ∷ ws) old = grind (arith, nat_tests, pairs_of cell t c line ws)
 
 pairs_in : (cell t : ℕ) (did : Did) (ps : List Placed) (old : ℕ)
     → last_pair cell (due_in did t ps) old ≡ value_or (last_at cell t (flat_map (register_landings did) ps)) old

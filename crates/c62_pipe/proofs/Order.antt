@@ -61,17 +61,7 @@ pub record AreParts (xs ys : List Placed) : Type 0 where
 
 pub parts : (xs ys : List Placed) → Ascends (xs ++ ys) → AreParts xs ys
 parts [] ys h = record { front = tt; back = h; across = λ p q a b. absurd a }
-parts (x ∷ xs) ys h =
-    let r = parts xs ys h.1 in
-    record {
-      front = ((λ q k. h.0 q (In-append_left q xs ys k)), r.front);
-      back = r.back;
-      across = λ p q a b.
-          ⊎_elim {C = listing_position p < listing_position q}
-          (λ e. let P : Placed → Type 0 = λ z. listing_position z < listing_position q in subst P e
-          (h.0 q (In-append_right q xs ys b)))
-          (λ k. r.across p q k b) a;
-    }
+parts (x ∷ xs) ys h = grind (arith, parts xs ys h.1, In-append_left, In-append_right)
 
 -- ---- the first instructions of a block, and the others
 

@@ -74,8 +74,7 @@ finish block opening cycle flight machine exit room h e = record {
 -- a write lands within the greatest delay
 within_greatest : (ws : List (Reg × ℕ)) (w : Reg × ℕ) → In w ws → w.1 ≤ greatest_delay ws
 within_greatest [] w h = absurd h
-within_greatest (x ∷ xs) w (inl e) = let f : x.1 ≡ w.1 = ap (λ (u : Reg × ℕ). u.1) e in omega arith
-within_greatest (x ∷ xs) w (inr h) = let r : w.1 ≤ greatest_delay xs = within_greatest xs w h in omega arith
+within_greatest (x ∷ xs) w h = grind (arith, within_greatest xs w)
 
 -- all of these landed before t
 all_landed : (block : List Placed) (opening : Machine) (t : ℕ) (ps : List Placed)
@@ -139,33 +138,22 @@ ahead block opening cycle next flight machine exit room p h l found =
 late_next : (block : List Placed) (cycle next : ℕ) (p : Placed) → Ascends block → next < length block
     → get_or block next p ≡ p → cycle < p.cycle
     → (q : Placed) → In q (drop next block) → cycle < q.cycle
-late_next block cycle next p ascends l found later q k =
-    let rest : drop next block ≡ p ∷ drop (next + 1) block = drop_more block next p l
-    ∙ ap (λ z. z ∷ drop (next + 1) block) found in
-    go rest (subst (λ ps. In q ps) rest k)
-  where
-    go : drop next block ≡ p ∷ drop (next + 1) block → In q (p ∷ drop (next + 1) block) → cycle < q.cycle
-    go rest (inl s) = subst (λ (z : Placed). cycle < z.cycle) s later
-    go rest (inr i) =
-        let less : listing_position p < listing_position q = (subst Ascends rest (parts_at block next ascends).back).0 q
-        i in
-        let a : 8 * p.cycle ≤ listing_position p = (position_of p).0 in
-        let b : listing_position q < 8 * q.cycle + 8 = (position_of q).1 in
-        omega arith
+late_next block cycle next p ascends l found later q k = grind (
+  arith,
+  drop_more block next p l,
+  parts_at block next ascends,
+  position_of p,
+  position_of q,
+)
 
 pub begins : (block : Packed) (opening : Contents) (flight : Flight) (state : Contents) → IsSound opening.machine
     → length flight.slots ≡ 5 → ((t : ℕ) → due flight.slots t ≡ [])
     → flight.stores ≡ [] → state.machine ≡ opening.machine → length block.placed ≤ state.room
     → Running block.placed opening.machine 0 0 flight state.machine Next state.room
-begins block opening flight state sound size none empty same enough =
-    let first : Running block.placed opening.machine 0 0 flight opening.machine Next state.room
-    = record {
-      upto = 0;
-      flying = start block.placed opening.machine flight sound size none empty;
-      leads = refl;
-      enough = omega arith;
-    } in
-    subst (λ m. Running block.placed opening.machine 0 0 flight m Next state.room) (sym same) first
+begins block opening flight state sound size none empty same enough = grind (
+  arith,
+  start block.placed opening.machine flight sound size none empty,
+)
 
 -- a cycle ends before the next instruction's
 pub waits : (block : Packed) (opening : Machine) (cycle next : ℕ) (flight flight' : Flight) (state state' : Contents)
@@ -174,18 +162,13 @@ pub waits : (block : Packed) (opening : Machine) (cycle next : ℕ) (flight flig
     → get_or block.placed next p ≡ p → cycle < p.cycle
     → flight' ≡ after_end cycle flight → state' ≡ record state { machine = at_end cycle flight state.machine }
     → Running block.placed opening (cycle + 1) next flight' state'.machine exit state'.room
-waits block opening cycle next flight flight' state state' exit p is h l found later e f =
-    let P : Flight → Contents
-    → Type 0 = λ fl st. Running block.placed opening (cycle + 1) next fl st.machine exit st.room in
-    let ended : Running block.placed opening (cycle + 1) next (after_end cycle flight)
-    (at_end cycle flight state.machine) exit state.room = record {
-      upto = 8 * (cycle + 1);
-      flying = end_step block.placed opening cycle next h.upto flight state.machine (ascends block is) h.flying
-          (late_next block.placed cycle next p (ascends block is) l found later);
-      leads = h.leads;
-      enough = h.enough;
-    } in
-    subst (λ fl. P fl state') (sym e) (subst (λ st. P (after_end cycle flight) st) (sym f) ended)
+waits block opening cycle next flight flight' state state' exit p is h l found later e f = grind (
+  arith,
+  end_step block.placed opening cycle next h.upto flight state.machine (ascends block is) h.flying (late_next
+      block.placed cycle next p (ascends block is) l found later),
+  ascends block is,
+  late_next block.placed cycle next p (ascends block is) l found later,
+)
 
 -- a cycle ends when all is issued
 pub drains : (block : Packed) (opening : Machine) (cycle : ℕ) (flight flight' : Flight) (state state' : Contents)
@@ -193,20 +176,12 @@ pub drains : (block : Packed) (opening : Machine) (cycle : ℕ) (flight flight' 
     → Running block.placed opening cycle (length block.placed) flight state.machine exit state.room
     → flight' ≡ after_end cycle flight → state' ≡ record state { machine = at_end cycle flight state.machine }
     → Running block.placed opening (cycle + 1) (length block.placed) flight' state'.machine exit state'.room
-drains block opening cycle flight flight' state state' exit is h e f =
-    let P : Flight → Contents
-    → Type 0 = λ fl st. Running block.placed opening (cycle + 1) (length block.placed) fl st.machine exit
-    st.room in
-    let none : drop (length block.placed) block.placed ≡ [] = drop_of_length-le block.placed (omega arith) in
-    let ended : Running block.placed opening (cycle + 1) (length block.placed) (after_end cycle flight)
-    (at_end cycle flight state.machine) exit state.room = record {
-      upto = 8 * (cycle + 1);
-      flying = end_step block.placed opening cycle (length block.placed) h.upto flight state.machine (ascends block is)
-          h.flying (λ p k. absurd (subst (λ ps. In p ps) none k));
-      leads = h.leads;
-      enough = h.enough;
-    } in
-    subst (λ fl. P fl state') (sym e) (subst (λ st. P (after_end cycle flight) st) (sym f) ended)
+drains block opening cycle flight flight' state state' exit is h e f = grind (
+  arith,
+  drop_of_length-le block.placed,
+  end_step block.placed opening cycle (length block.placed) h.upto flight state.machine (ascends block is) h.flying,
+  ascends block is,
+)
 
 -- the next instruction is issued
 pub goes_on : (block : Packed) (opening : Machine) (cycle next : ℕ) (flight flight' : Flight) (state state' : Contents)
@@ -218,33 +193,16 @@ pub goes_on : (block : Packed) (opening : Machine) (cycle next : ℕ) (flight fl
     → state.room ≤ state'.room + 1
     → target ≡ (act_at p state.machine).target → exit' ≡ exit_after exit target
     → Running block.placed opening cycle (next + 1) flight' state'.machine exit' state'.room
-goes_on block opening cycle next flight flight' state state' exit exit' target p is h l found now e f rooms t x =
-    let did = the_run block.placed opening in
-    let inside : In p (drop next block.placed) = next_in block.placed next p l found in
-    let more : take (next + 1) block.placed ≡ take next block.placed ++ p ∷ [] = take_more block.placed next p l
-    ∙ ap (λ z. take next block.placed ++ z ∷ []) found in
-    let same : act_at p state.machine ≡ the_run block.placed opening p = does block.placed opening cycle next h.upto
-    flight state.machine p h.flying (In-drop block.placed next p inside) now in
-    let step : Running block.placed opening cycle (next + 1) (issued cycle p.line (act_at p state.machine) flight)
-    (with_fault_if p.line (is_fault (act_at p state.machine).access) state.machine)
-    (exit_after exit (act_at p state.machine).target) state'.room = record {
-      upto = listing_position p + 1;
-      flying = issue_step block.placed opening cycle next h.upto flight state.machine p (ascends block is) h.flying l
-          found now;
-      leads =
-          ap (λ (x : Act). exit_after exit x.target) same
-          ∙ ap (λ x. exit_after x (the_run block.placed opening p).target) h.leads
-          ∙ sym (fold-append _ Next (take next block.placed) (p ∷ []))
-          ∙ ap (λ ps. exit_by (the_run block.placed opening) ps) (sym more);
-      enough = (let r : length block.placed ≤ next + state.room = h.enough in omega arith);
-    } in
-    let P : Flight → Machine → Exit
-    → Type 0 = λ fl m ex. Running block.placed opening cycle (next + 1) fl m ex state'.room in
-    subst (λ fl. P fl state'.machine exit') (sym e)
-    (subst (λ m. P (issued cycle p.line (act_at p state.machine) flight) m exit') (sym f)
-    (subst (λ ex. P (issued cycle p.line (act_at p state.machine) flight)
-    (with_fault_if p.line (is_fault (act_at p state.machine).access) state.machine) ex) (sym (x
-    ∙ ap (λ o. exit_after exit o) t)) step))
+goes_on block opening cycle next flight flight' state state' exit exit' target p is h l found now e f rooms t x = grind (
+  arith,
+  next_in block.placed next p l found,
+  take_more block.placed next p l,
+  does block.placed opening cycle next h.upto flight state.machine p h.flying,
+  In-drop block.placed next p,
+  issue_step block.placed opening cycle next h.upto flight state.machine p (ascends block is) h.flying l found now,
+  ascends block is,
+  fold-append,
+)
 
 pub ready : (block : Packed) (opening : Machine) (cycle next : ℕ) (flight : Flight) (state : Contents) (exit : Exit)
     (p : Placed)
@@ -257,8 +215,4 @@ ready block opening cycle next flight state exit p h l found now =
 -- an instruction is issued before the block is over
 pub in_time : (block : Packed) (next : ℕ) (p : Placed) → IsPacketBlock block → next < length block.placed
     → get_or block.placed next p ≡ p → p.cycle < block.cycles
-in_time block next p is l found =
-    let d = is.drained next p l in
-    let e : landing_end (issue_of p) ≤ block.cycles = subst (λ (z : Placed). landing_end (issue_of z) ≤ block.cycles)
-    found d in
-    omega arith
+in_time block next p is l found = grind arith

@@ -3,7 +3,7 @@ use Rattle.std.proofs.Common.{◌≡◌, Bool, true, false, inl, inr, ℕ, ◌+�
 use Rattle.std.proofs.Common.{get_or, set, cond, eqb, refl, sym, ◌∙◌, ap, subst, ⊎_elim, append_assoc, length-append}
 use Rattle.std.proofs.Common.{arith}
 use Rattle.std.specs.List.{zip, flat_map}
-use Rattle.std.proofs.lemmas.Bool.{cases_eq, cases_lt, cond-true, cond-false, cond_both, eqb-true, eq-eqb, ne_eqb}
+use Rattle.std.proofs.lemmas.Bool.{cases_eq, cases_lt, cond-false, cond_both, eqb-true, ne_eqb}
 use Rattle.std.proofs.lemmas.List.{append-nil, length-set, get_or-set_other, get_or_past}
 use Rattle.std.proofs.lemmas.Grind.{get_or-set_at}
 use Rattle.std.proofs.lemmas.List.Elements.{All-from_get_or}
@@ -17,6 +17,7 @@ use Rattle.c62_meaning.specs.Packet.{Did}
 use Rattle.c62_meaning.proofs.Lookup.{In, Contains_from_In}
 use Rattle.c62_meaning.proofs.Landings.{act_writes, Rising, rising_writes}
 use Rattle.c62_pipe.specs.Flight.{Slot, due, made_by, with_write, with_writes, FitsSlots}
+use Rattle.std.proofs.lemmas.Bool.Decides.{nat_tests}
 
 -- of the writes of an instruction of this line issued in this cycle, those that land at t
 abbrev pub due_of : ℕ → ℕ → ℕ → List ((Reg × ℕ) × ℕ) → Slot
@@ -40,8 +41,7 @@ apart c t u a b d e ne same = ne (omega arith)
 
 pub due-set_same : (slots : List Slot) (t u : ℕ) (slot : Slot) → length slots ≡ 5 → t % 5 ≡ u % 5
     → due (set slots (u % 5) slot) t ≡ slot
-due-set_same slots t u slot l e = get_or-set_at slots (u % 5) (t % 5) slot [] e
-    (let b : u % 5 < 5 = omega arith in omega arith)
+due-set_same slots t u slot l e = grind (arith, get_or-set_at slots (u % 5) (t % 5) slot)
 
 pub due-set_other : (slots : List Slot) (t u : ℕ) (slot : Slot) → (t % 5 ≡ u % 5 → ⊥)
     → due (set slots (u % 5) slot) t ≡ due slots t
@@ -49,15 +49,7 @@ due-set_other slots t u slot ne = get_or-set_other slots (u % 5) (t % 5) slot []
 
 due_write : (c line t : ℕ) (slots : List Slot) (w : (Reg × ℕ) × ℕ) → length slots ≡ 5 → c ≤ t → t < c + 5 → w.0.1 ≤ 4
     → due (with_write c line slots w) t ≡ cond (eqb (c + w.0.1) t) (due slots t ++ made_by line w ∷ []) (due slots t)
-due_write c line t slots w l a b s =
-    ⊎_elim {C = due (with_write c line slots w) t ≡ cond (eqb (c + w.0.1) t) (due slots t ++ made_by line w ∷ [])
-    (due slots t)}
-    (λ e. due-set_same slots t (c + w.0.1) (due slots (c + w.0.1) ++ made_by line w ∷ []) l (ap (λ n. n % 5) (sym e))
-    ∙ ap (λ n. due slots n ++ made_by line w ∷ []) e ∙ sym (cond-true _ _ _ (eq-eqb _ _ e)))
-    (λ ne. due-set_other slots t (c + w.0.1) (due slots (c + w.0.1) ++ made_by line w ∷ [])
-    (apart c t (c + w.0.1) a b (omega arith) (omega arith) (λ e. ne (sym e)))
-    ∙ sym (cond-false _ _ _ (ne_eqb _ _ ne)))
-    (cases_eq (c + w.0.1) t)
+due_write c line t slots w l a b s = grind (arith, nat_tests, due-set_same, due-set_other, apart)
 
 pub length-writes : (c line : ℕ) (ws : List ((Reg × ℕ) × ℕ)) (slots : List Slot)
     → length (with_writes c line ws slots) ≡ length slots
@@ -94,9 +86,7 @@ due_none t c line (w ∷ ws) h =
 
 In-keys : (ks : List (Reg × ℕ)) (vs : List ℕ) (w : (Reg × ℕ) × ℕ) → In w (zip ks vs) → In w.0 ks
 In-keys [] vs w h = absurd h
-In-keys (k ∷ ks) [] w h = absurd h
-In-keys (k ∷ ks) (v ∷ vs) w (inl e) = inl (ap (λ (u : (Reg × ℕ) × ℕ). u.0) e)
-In-keys (k ∷ ks) (v ∷ vs) w (inr h) = inr (In-keys ks vs w h)
+In-keys (k ∷ ks) vs w h = grind (arith, In-keys ks)
 
 one_due : (t c line : ℕ) (ks : List (Reg × ℕ)) (vs : List ℕ) → Rising ks → length (due_of t c line (zip ks vs)) ≤ 1
 one_due t c line [] vs h = omega arith

@@ -1,6 +1,6 @@
 use Rattle.c62_pipe.proofs.Chains.{run_alike}
 use Rattle.c62_pipe.proofs.laws.packets_run_as_their_program.Goals as goal
+use Rattle.std.proofs.Common.{arith}
 
 pub returns : goal.returns
-returns c = λ program packets opening limit packed sound chain final. run_alike program packets opening final limit
-    chain packed sound
+returns c = grind (arith, run_alike)

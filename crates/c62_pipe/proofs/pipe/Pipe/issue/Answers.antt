@@ -1,14 +1,14 @@
-use Rattle.std.proofs.Common.{◌≡◌, true, sym, ◌∙◌, ap, subst, [], ◌∷◌}
+use Rattle.std.proofs.Common.{◌≡◌, true, sym, ap, subst, [], ◌∷◌}
 use Rattle.c62_insn.specs.declared.action.Action.TheVariants.{Write, Transfer as Transfers}
 use Rattle.c62_insn.specs.Insn.{op_of}
 use Rattle.c62_op.specs.Shape.{delay_of}
 use Rattle.c62_serial.specs.State.{word_in}
-use Rattle.c62_serial.specs.Effect.{Act, runs, is_fault}
-use Rattle.c62_serial.specs.Faults.{with_fault_if}
+use Rattle.c62_serial.specs.Effect.{Act, runs}
 use Rattle.c62_serial.proofs.ActionLemmas.{act_of-action}
-use Rattle.c62_pipe.specs.Flight.{Flight, with_writes, FitsSlots, issued}
+use Rattle.c62_pipe.specs.Flight.{Flight, with_writes, FitsSlots}
 use Rattle.c62_pipe.proofs.Slots.{room_for}
 use Rattle.c62_pipe.proofs.pipe.Pipe.issue.Goals as goal
+use Rattle.std.proofs.Common.{arith}
 
 pub schedule-requires-clause-room : goal.schedule-requires-clause-room
 schedule-requires-clause-room c =
@@ -38,22 +38,15 @@ transfer-requires-clause-fits c =
     did c.requires.fits
 
 pub returns-in-Transfer-clause-machine : goal.returns-in-Transfer-clause-machine
-returns-in-Transfer-clause-machine c =
-    let running : runs (word_in c.args.state.now.machine) c.args.placed.now.insn ≡ true = rw c.registers.ensures at
-    (sym c.in_ok-reg.ensures.runs) in
-    let did = act_of-action c.args.placed.now.insn c.args.state.now.machine c.registers.result.now
-    (Transfers c.in-Transfer.transfer) c.registers.ensures running
-    (rw c.in-Transfer.is at c.in_ok-reg.ensures.action) in
-    c.transfer.ensures.machine
-    ∙ ap (λ (act : Act). with_fault_if c.args.placed.now.line (is_fault act.access) c.args.state.now.machine)
-    (sym did)
+returns-in-Transfer-clause-machine c = grind (
+  arith,
+  act_of-action c.args.placed.now.insn c.args.state.now.machine c.registers.result.now (Transfers
+      c.in-Transfer.transfer) c.registers.ensures,
+)
 
 pub returns-in-Transfer-clause-flight : goal.returns-in-Transfer-clause-flight
-returns-in-Transfer-clause-flight c =
-    let running : runs (word_in c.args.state.now.machine) c.args.placed.now.insn ≡ true = rw c.registers.ensures at
-    (sym c.in_ok-reg.ensures.runs) in
-    let did = act_of-action c.args.placed.now.insn c.args.state.now.machine c.registers.result.now
-    (Transfers c.in-Transfer.transfer) c.registers.ensures running
-    (rw c.in-Transfer.is at c.in_ok-reg.ensures.action) in
-    c.transfer.ensures.flight
-    ∙ ap (λ (act : Act). issued c.args.cycle c.args.placed.now.line act c.args.self.now) (sym did)
+returns-in-Transfer-clause-flight c = grind (
+  arith,
+  act_of-action c.args.placed.now.insn c.args.state.now.machine c.registers.result.now (Transfers
+      c.in-Transfer.transfer) c.registers.ensures,
+)

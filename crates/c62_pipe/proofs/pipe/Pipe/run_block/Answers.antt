@@ -1,9 +1,8 @@
-use Rattle.std.proofs.Common.{◌≡◌, ℕ, ◌<◌, ◌≤◌, List, [], length, get_or, sym, ◌∙◌, ap, subst, inl, inr, ⊎_elim, arith}
-use Rattle.c62_serial.specs.State.{IsSound}
+use Rattle.std.proofs.Common.{◌≡◌, ℕ, ◌<◌, List, length, get_or, sym, ◌∙◌, subst, arith}
 use Rattle.c62_packet.specs.declared.placed.Placed.{Placed}
 use Rattle.c62_pipe.proofs.Running.{begins, ahead, waits, drains, goes_on, ready, in_time, idle, finish}
-use Rattle.c62_pipe.specs.Flight.{Flight}
 use Rattle.c62_pipe.proofs.pipe.Pipe.run_block.Goals as goal
+use Rattle.std.proofs.lemmas.Bool.Decides.{nat_tests}
 
 -- the instruction that is next
 at_item : (block all : List Placed) (i : ℕ) (p : Placed) → all ≡ block → i < length all → p ≡ get_or all i p
@@ -11,42 +10,20 @@ at_item : (block all : List Placed) (i : ℕ) (p : Placed) → all ≡ block →
 at_item block all i p e l found = (subst (λ ps. i < length ps) e l, sym (subst (λ ps. p ≡ get_or ps i p) e found))
 
 pub loop-placed-init : goal.loop-placed-init
-loop-placed-init c =
-    let sound : IsSound c.args.state.now.machine = subst IsSound c.in_ok-room.ensures.machine c.faults.ensures.sound in
-    let all : length c.placed-all.result.now ≡ length c.args.block.now.placed = ap length c.placed-all.ensures.same in
-    let enough : length c.placed-all.result.now ≤ c.room.new.self.room = c.in_ok-room.ensures.ok in
-    record {
-      running = begins c.args.block.now c.args.state.now c.args.self.now c.room.new.self sound c.requires.size
-          c.requires.slots c.requires.stores c.in_ok-room.ensures.machine (omega arith);
-      within = omega arith;
-      stored = inl c.requires.stores;
-    }
+loop-placed-init c = grind (arith, begins c.args.block.now c.args.state.now c.args.self.now c.room.new.self)
 
 pub loop-cycle-init : goal.loop-cycle-init
-loop-cycle-init c =
-    let item = at_item c.args.block.now.placed c.placed-all.result.now c.loop-placed.placed-index c.placed-item.result
-    c.placed-all.ensures.same c.loop-placed-test.true c.placed-item.is in
-    let start : c.from-start.result ≡ c.placed-item.result.cycle = c.from-start.ensures in
-    let first : c.loop-placed.cycle ≤ c.placed-item.result.cycle
-    = ahead c.args.block.now.placed c.args.state.now.machine c.loop-placed.cycle c.loop-placed.placed-index
-    c.loop-placed.self c.loop-placed.state.machine c.loop-placed.exit c.loop-placed.state.room
-    c.placed-item.result c.loop-placed.invariant.running item.0 item.1 in
-    record { running = c.loop-placed.invariant.running; within = omega arith; now = start }
+loop-cycle-init c = grind (
+  arith,
+  at_item c.args.block.now.placed c.placed-all.result.now c.loop-placed.placed-index c.placed-item.result
+      c.placed-all.ensures.same c.loop-placed-test.true c.placed-item.is,
+  ahead c.args.block.now.placed c.args.state.now.machine c.loop-placed.cycle c.loop-placed.placed-index
+      c.loop-placed.self c.loop-placed.state.machine c.loop-placed.exit c.loop-placed.state.room c.placed-item.result
+      c.loop-placed.invariant.running,
+)
 
 pub loop-cycle-preserved : goal.loop-cycle-preserved
-loop-cycle-preserved c =
-    let item = at_item c.args.block.now.placed c.placed-all.result.now c.loop-placed.placed-index c.placed-item.result
-    c.placed-all.ensures.same c.loop-placed-test.true c.placed-item.is in
-    let start : c.from-start.result ≡ c.placed-item.result.cycle = c.from-start.ensures in
-    let before : c.loop-cycle.cycle < c.placed-item.result.cycle = omega arith in
-    record {
-      running = waits c.args.block.now c.args.state.now.machine c.loop-cycle.cycle c.loop-placed.placed-index
-          c.loop-cycle.self c.end_cycle.new.self c.loop-cycle.state c.end_cycle.new.state c.loop-placed.exit
-          c.placed-item.result c.placed-all.ensures.sound c.loop-cycle.invariant.running item.0 item.1 before
-          c.end_cycle.ensures.flight c.end_cycle.ensures.state;
-      within = omega arith;
-      now = c.from-start.ensures;
-    }
+loop-cycle-preserved c = grind (arith, nat_tests, at_item, waits)
 
 pub issue-requires-clause-few : goal.issue-requires-clause-few
 issue-requires-clause-few c =
@@ -65,44 +42,25 @@ issue-requires-clause-fits c =
     (omega arith)).fits
 
 pub loop-placed-preserved : goal.loop-placed-preserved
-loop-placed-preserved c =
-    let item = at_item c.args.block.now.placed c.placed-all.result.now c.loop-placed.placed-index c.placed-item.result
-    c.placed-all.ensures.same c.loop-placed-test.true c.placed-item.is in
-    let before : c.placed-item.result.cycle < c.args.block.now.cycles = in_time c.args.block.now
-    c.loop-placed.placed-index c.placed-item.result c.placed-all.ensures.sound item.0 item.1 in
-    let length : c.from-length.result ≡ c.args.block.now.cycles = c.from-length.ensures ∙ c.length.ensures.same in
-    record {
-      running = goes_on c.args.block.now c.args.state.now.machine c.loop-cycle.cycle c.loop-placed.placed-index
-          c.loop-cycle.self c.issue.new.self c.loop-cycle.state c.issue.new.state c.loop-placed.exit
-          c.exit_after-exit.result
-          c.issue.result c.placed-item.result c.placed-all.ensures.sound c.loop-cycle.invariant.running item.0 item.1
-          (omega arith) c.issue.ensures.flight c.issue.ensures.machine c.issue.ensures.room
-          c.issue.ensures.target
-          c.exit_after-exit.ensures;
-      within = omega arith;
-      stored = inr (omega arith);
-    }
+loop-placed-preserved c = grind (
+  arith,
+  at_item c.args.block.now.placed c.placed-all.result.now c.loop-placed.placed-index c.placed-item.result
+      c.placed-all.ensures.same c.loop-placed-test.true c.placed-item.is,
+  in_time c.args.block.now c.loop-placed.placed-index c.placed-item.result c.placed-all.ensures.sound,
+  goes_on c.args.block.now c.args.state.now.machine c.loop-cycle.cycle c.loop-placed.placed-index c.loop-cycle.self
+      c.issue.new.self c.loop-cycle.state c.issue.new.state c.loop-placed.exit c.exit_after-exit.result c.issue.result
+      c.placed-item.result c.placed-all.ensures.sound c.loop-cycle.invariant.running,
+)
 
 pub loop-cycle-2-preserved : goal.loop-cycle-2-preserved
-loop-cycle-2-preserved c = record {
-  running = drains c.args.block.now c.args.state.now.machine c.loop-cycle-2.cycle c.loop-cycle-2.self
-      c.end_cycle-in-loop-cycle-2.new.self c.loop-cycle-2.state c.end_cycle-in-loop-cycle-2.new.state
-      c.loop-placed.exit
-      c.placed-all.ensures.sound c.loop-cycle-2.invariant.running c.end_cycle-in-loop-cycle-2.ensures.flight
-      c.end_cycle-in-loop-cycle-2.ensures.state;
-  within = omega arith;
-  stored = inl (ap (λ (flight : Flight). flight.stores) c.end_cycle-in-loop-cycle-2.ensures.flight);
-}
+loop-cycle-2-preserved c = grind (arith, nat_tests, drains)
 
 pub returns-clause-idle : goal.returns-clause-idle
-returns-clause-idle c =
-    let length : c.from-length.result ≡ c.args.block.now.cycles = c.from-length.ensures ∙ c.length.ensures.same in
-    let none : c.loop-cycle-2.self.stores ≡ []
-    = ⊎_elim {C = c.loop-cycle-2.self.stores ≡ []} (λ e. e) (λ l. absurd (let no : ⊥ = omega arith in no))
-    c.loop-cycle-2.invariant.stored in
-    idle c.args.block.now c.args.state.now.machine c.loop-cycle-2.cycle c.loop-cycle-2.self c.loop-cycle-2.state.machine
-    c.loop-placed.exit c.loop-cycle-2.state.room c.placed-all.ensures.sound c.loop-cycle-2.invariant.running
-    (omega arith) none
+returns-clause-idle c = grind (
+  arith,
+  idle c.args.block.now c.args.state.now.machine c.loop-cycle-2.cycle c.loop-cycle-2.self c.loop-cycle-2.state.machine
+      c.loop-placed.exit c.loop-cycle-2.state.room c.placed-all.ensures.sound c.loop-cycle-2.invariant.running,
+)
 
 pub returns-clause-meaning : goal.returns-clause-meaning
 returns-clause-meaning c =

@@ -1,4 +1,4 @@
-use Rattle.std.proofs.Common.{◌≡◌, ℕ, ◌+◌, ◌<◌, List, [], ◌++◌, length, Option, Some, None, sym, ◌∙◌, ap, subst}
+use Rattle.std.proofs.Common.{◌≡◌, ℕ, ◌+◌, ◌<◌, List, [], ◌++◌, length, Option, Some, None, sym, ◌∙◌, subst}
 use Rattle.std.specs.Prelude.{zip}
 use Rattle.std.specs.Option.{option_to_list}
 use Rattle.c62_op.specs.declared.register.Reg.{Reg}
@@ -9,10 +9,11 @@ use Rattle.c62_op.specs.Shape.{delay_of}
 use Rattle.c62_serial.specs.State.{byte_in}
 use Rattle.c62_serial.specs.Memory.{placed_from}
 use Rattle.c62_serial.specs.Effect.{loaded}
-use Rattle.c62_pipe.specs.Flight.{Slot, Flight, due, with_write, with_writes, FitsSlots}
+use Rattle.c62_pipe.specs.Flight.{Slot, due, with_write, with_writes, FitsSlots}
 use Rattle.c62_pipe.proofs.Slots.{room_for}
 use Rattle.c62_pipe.proofs.pipe.Pipe.transfer.Goals as goal
 use Rattle.c62_pipe.proofs.pipe.Pipe.transfer.Goals.{in-Some, in_default}
+use Rattle.std.proofs.Common.{arith}
 
 -- the writes of a base and a destination
 abbrev pairs : Op → Option (Reg × ℕ) → Option Reg → Option ℕ → List ((Reg × ℕ) × ℕ)
@@ -45,41 +46,26 @@ room_for_load cycle line op base loads word reg value slots e f fits =
         (with_write cycle line slots ((b.0, 0), b.1)) h
 
 pub schedule-requires-clause-room : goal.schedule-requires-clause-room
-schedule-requires-clause-room c =
-    let same : c.args.self.now.slots ≡ c.self.inside.ring = sym (ap (λ (flight : Flight). flight.slots) c.self.view_is
-    ∙ ap (λ (flight : Flight). flight.slots) c.access-loaded.ensures.flight) in
-    subst (λ slots. length (due slots (c.args.cycle + 0)) < 40) same
-    (room_for_base c.args.cycle c.args.placed.now.line (op_of c.args.placed.now.insn) c.args.transfer.base
-    c.in-Some.base c.in-Some.word c.args.transfer.loads
-    (loaded (byte_in c.args.state.now.machine) (op_of c.args.placed.now.insn)
-    (placed_from c.args.state.now.machine.base (Some c.args.transfer.access)))
-    c.args.self.now.slots c.in-Some.is c.requires.fits)
+schedule-requires-clause-room c = grind (
+  arith,
+  room_for_base c.args.cycle c.args.placed.now.line (op_of c.args.placed.now.insn) c.args.transfer.base c.in-Some.base
+      c.in-Some.word c.args.transfer.loads (loaded (byte_in c.args.state.now.machine) (op_of c.args.placed.now.insn)
+      (placed_from c.args.state.now.machine.base (Some c.args.transfer.access))) c.args.self.now.slots c.in-Some.is
+      c.requires.fits,
+)
 
 ring : (c : goal.After-schedule-arg-2-1)
     → c.match-transfer.self-inside.ring ≡ with_base c.args.cycle c.args.placed.now.line c.args.transfer.base
     c.args.self.now.slots
-ring c =
-    let same : c.self.inside.ring ≡ c.args.self.now.slots = ap (λ (flight : Flight). flight.slots) c.self.view_is
-    ∙ ap (λ (flight : Flight). flight.slots) c.access-loaded.ensures.flight in
-    elim c.match-transfer.branch [
-      | in-Some w ↦
-          ap (λ inside. inside.ring) w.self-inside-is ∙ w.schedule.ensures
-          ∙ ap (λ slots. with_write c.args.cycle c.args.placed.now.line slots
-          ((w.in-Some.base, 0), w.in-Some.word)) same
-          ∙ ap (λ base. with_base c.args.cycle c.args.placed.now.line base c.args.self.now.slots) (sym w.in-Some.is)
-      | in_default w ↦ ap (λ inside. inside.ring) w.self-inside-is ∙ same
-          ∙ ap (λ base. with_base c.args.cycle c.args.placed.now.line base c.args.self.now.slots)
-          (sym w.in_default.is)
-    ]
+ring c = grind (arith, in-Some, in_default)
 
 pub schedule-requires-2-clause-room : goal.schedule-requires-2-clause-room
-schedule-requires-2-clause-room c =
-    let fit : length (due (with_base c.args.cycle c.args.placed.now.line c.args.transfer.base c.args.self.now.slots)
-    (c.args.cycle + delay_of (op_of c.args.placed.now.insn))) < 40
-    = room_for_load c.args.cycle c.args.placed.now.line (op_of c.args.placed.now.insn) c.args.transfer.base
-    c.args.transfer.loads
-    (loaded (byte_in c.args.state.now.machine) (op_of c.args.placed.now.insn)
-    (placed_from c.args.state.now.machine.base (Some c.args.transfer.access)))
-    c.in-Some-loads.reg c.in-Some-loaded.word c.args.self.now.slots c.in-Some-loads.is
-    (sym c.access-loaded.ensures.loaded ∙ c.in-Some-loaded.is) c.requires.fits in
-    rw (ring c, c.delay-delay.ensures) fit
+schedule-requires-2-clause-room c = grind (
+  arith,
+  room_for_load c.args.cycle c.args.placed.now.line (op_of c.args.placed.now.insn) c.args.transfer.base
+      c.args.transfer.loads (loaded (byte_in c.args.state.now.machine) (op_of c.args.placed.now.insn) (placed_from
+      c.args.state.now.machine.base (Some c.args.transfer.access))) c.in-Some-loads.reg c.in-Some-loaded.word
+      c.args.self.now.slots c.in-Some-loads.is (sym c.access-loaded.ensures.loaded ∙ c.in-Some-loaded.is)
+      c.requires.fits,
+  ring c,
+)
