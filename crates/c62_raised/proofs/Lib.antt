@@ -4,6 +4,8 @@ pub mod Leads
 pub mod Seated
 pub mod Bound
 pub mod Crowds
+pub mod Passes
+pub mod Orders
 pub mod Heights
 pub mod Places
 pub mod Lengths

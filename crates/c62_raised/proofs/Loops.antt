@@ -3,13 +3,12 @@ use Rattle.std.proofs.Common.{arith, ◌≡◌, ℕ, zero, suc, ◌+◌, ◌<◌
 use Rattle.std.proofs.Common.{Option, Some, None, refl, sym, ap, ◌∙◌, subst, inl, inr}
 use Rattle.std.specs.Prelude.{ℤ, pos, fold}
 use Rattle.std.proofs.Math.Seq.{get_or-append_seam}
-use Rattle.std.proofs.lemmas.Bool.{cases_eq, cases_lt}
+use Rattle.std.proofs.lemmas.Bool.{cases_lt}
 use Rattle.std.proofs.lemmas.List.{get_or_append_left, get_or_past}
 use Rattle.c62_insn.specs.declared.insn.Insn.{Insn}
-use Rattle.c62_raised.specs.declared.room.Room.{Room}
 use Rattle.c62_raised.specs.Chain.{IsLongest, AreLongest, lead_in}
 use Rattle.c62_raised.specs.Raised.{AreAtOnce}
-use Rattle.c62_raised.specs.Steps.{IsOwn, AreLongestBelow, IsSmall, AreSmall}
+use Rattle.c62_raised.specs.Steps.{AreLongestBelow, IsSmall, AreSmall}
 use Rattle.c62_raised.proofs.Chains.{chain_after, small_lead}
 use Rattle.c62_read.specs.declared.limits.TheConstants.{MOST_INSTRUCTIONS}
 
@@ -43,20 +42,6 @@ pub pushed_old : (old new : List (Option ℤ)) (x : Option ℤ) (k n : ℕ) → 
     → lead_in new k ≡ lead_in old k
 pushed_old old new x k n e long low = ap (λ (xs : List (Option ℤ)). lead_in xs k) e
     ∙ get_or_append_left old (x ∷ []) None k (omega (arith, long, low))
-
-pub own_more : (block : List Insn) (room : Room) (lead : ℕ
-    → Option ℤ) (old new : List (Option ℤ)) (x : Option ℤ) (n : ℕ) → new ≡ old ++ x ∷ []
-    → length old ≡ n
-    → ((k : ℕ) → k < n → IsOwn block room k (lead k) (lead_in old k)) → IsOwn block room n (lead n) x
-    → (k : ℕ) → k < n + 1 → IsOwn block room k (lead k) (lead_in new k)
-own_more block room lead old new x n e long before own k low = elim (cases_eq k n) [
-  | inl at ↦
-      subst (λ (j : ℕ). IsOwn block room j (lead j) (lead_in new j)) (sym at)
-      (subst (IsOwn block room n (lead n)) (sym (pushed_at old new x n e long)) own)
-  | inr ne ↦
-      (let less : k < n = omega (arith, low, ne) in
-      subst (IsOwn block room k (lead k)) (sym (pushed_old old new x k n e long less)) (before k less))
-]
 
 pub none_past : (leads : List (Option ℤ)) (j : ℕ) → length leads ≤ j → lead_in leads j ≡ None
 none_past leads j high = get_or_past leads j None high

@@ -1,15 +1,13 @@
 //! What crowds for a room behind an instruction.
 
-ghost use Rattle.std.specs.Prelude.{◌≡◌, ◌↔◌, ◌<◌, ◌≤◌, ◌≤ℤ◌, ℕ, length, slice_index, IsTrue, IsSome, Some, None, MatchOption};
+ghost use Rattle.std.specs.Prelude.{◌≡◌, ◌<◌, ◌≤◌, ℕ, length, slice_index, IfSome};
 ghost use Rattle.c62_depend.specs.Plan.{insns_of};
-ghost use Rattle.c62_sheet.specs.Counts.{HasCount};
 ghost use Rattle.c62_raised.specs.Chain.{lead_in};
 ghost use Rattle.c62_raised.specs.Raised.{IsReached};
-ghost use Rattle.c62_raised.specs.Steps.{IsOwn, AreOwn, IsTall, IsEarlier, IsEarliest, IsOwnCrowd, IsWithCrowd, CoversCrowds};
+ghost use Rattle.c62_raised.specs.Order.{AreWaits, IsOrdered, CoversLeads};
+ghost use Rattle.c62_raised.specs.Steps.{IsJoined, closed, closed_before, IsWithMember, IsWithNumber, CoversCrowds};
 
-use crate::lead::Leads;
-use crate::room::{Room, waits_in};
-use arrayvec::ArrayVec;
+use crate::room::{Room, Waits};
 use c62_depend::Plan;
 use c62_read::MOST_INSTRUCTIONS;
 
@@ -43,132 +41,119 @@ impl Crowd {
     }
 }
 
-/// How many cycles instruction `j` comes behind, if it waits for the room.
-fn own_lead(plan: &Plan, room: Room, before: Option<i32>, j: u16) -> Option<i32>
-    requires { j < length plan.now.insns }
-    ensures { IsOwn (insns_of plan.now) room j before result }
+/// What a pass over the instructions of a block, in falling order of their heights, has found for a room.
+#[derive(Clone, Copy, PartialEq, Eq, Debug)]
+pub(crate) struct Pass {
+    /// Those so far that wait for the room and come behind: `None` where there are none. Those may be to come that are as tall
+    /// as the last of them.
+    pub(crate) held: Option<Crowd>,
+    /// The greatest of so many cycles, and those of the crowds whose tail is greater.
+    pub(crate) most: u64,
+}
+
+/// One more of no greater height.
+fn joined(held: Option<Crowd>, room: Room, lead: i32, tail: u32) -> Crowd
+    requires { IfSome held (λ crowd. crowd.count < 256) }
+    ensures { IsJoined held room lead tail result }
 {
-    match before {
-        Some(cycles) => {
-            if waits_in(plan, room, j) {
-                Some(cycles)
+    match held {
+        Some(crowd) => Crowd {
+            room,
+            lead: crowd.lead.min(lead),
+            count: crowd.count + 1,
+            tail,
+        },
+        None => Crowd {
+            room,
+            lead,
+            count: 1,
+            tail,
+        },
+    }
+}
+
+/// The greater of so many cycles, and those of a crowd.
+fn closed(held: Option<Crowd>, most: u64) -> u64
+    ensures { result ≡ closed held most }
+{
+    match held {
+        Some(crowd) => most.max(crowd.cycles()),
+        None => most,
+    }
+}
+
+/// This, where the tail is another one than the crowd's; where it isn't, so many cycles.
+fn closed_before(held: Option<Crowd>, tail: u32, most: u64) -> u64
+    ensures { result ≡ closed_before held tail most }
+{
+    match held {
+        Some(crowd) => {
+            if crowd.tail == tail {
+                most
             } else {
-                None
+                most.max(crowd.cycles())
             }
         }
-        None => None,
+        None => most,
     }
 }
 
-/// How many cycles those come behind that wait for the room.
-fn own_leads(plan: &Plan, room: Room, leads: &[Option<i32>]) -> Leads
-    requires { length leads.now ≡ length (insns_of plan.now) }
-    ensures long { length result.items ≡ length (insns_of plan.now) }
-    ensures are { AreOwn (insns_of plan.now) room (lead_in leads.now) (lead_in result.items) }
+/// With an instruction that waits for the room and comes so many cycles behind.
+fn with_member(pass: Pass, room: Room, lead: i32, height: u32) -> Pass
+    requires { IfSome pass.held (λ crowd. crowd.count < 256) }
+    ensures { IsWithMember room lead height pass result }
 {
-    let mut own = ArrayVec::new();
-    for j in 0..plan.len() {
-        own.push(own_lead(plan, room, leads[usize::from(j)], j));
+    Pass {
+        most: closed_before(pass.held, height, pass.most),
+        held: Some(joined(pass.held, room, lead, height)),
     }
-    own
 }
 
-/// Whether an instruction comes behind, and has this height or a greater one.
-fn is_tall(own: Option<i32>, height: u32, tail: u32) -> bool
-    ensures { IsTrue result ↔ (IsSome own × (tail ≤ height)) }
+/// With an instruction, if it waits for the room and comes behind.
+fn with_number(pass: Pass, room: Room, waits: bool, lead: Option<i32>, height: u32) -> Pass
+    requires { IfSome pass.held (λ crowd. crowd.count < 256) }
+    ensures { IsWithNumber room waits lead height pass result }
 {
-    own.is_some() && tail <= height
-}
-
-/// How many of these do.
-fn count(own: &[Option<i32>], heights: &Heights, tail: u32) -> u16
-    requires { length own.now ≤ MOST_INSTRUCTIONS }
-    ensures { HasCount (IsTall own.now heights.now tail) (length own.now) result }
-{
-    let mut count = 0u16;
-    for j in 0..own.len() {
-        count += u16::from(is_tall(own[j], heights[j], tail));
-    }
-    count
-}
-
-/// The fewer of so many cycles, and how many an instruction comes behind that has this height or a greater one.
-fn earlier(least: i32, own: Option<i32>, height: u32, tail: u32) -> i32
-    ensures { IsEarlier own height tail least result }
-{
-    match own {
+    match lead {
         Some(cycles) => {
-            if tail <= height {
-                least.min(cycles)
+            if waits {
+                with_member(pass, room, cycles, height)
             } else {
-                least
+                pass
             }
         }
-        None => least,
+        None => pass,
     }
 }
 
-/// How many cycles the first of these comes behind, of which number `last` is one.
-fn earliest(own: &[Option<i32>], heights: &Heights, tail: u32, last: u16, lead: i32) -> i32
-    requires few { length own.now ≤ MOST_INSTRUCTIONS }
-    requires within { last < length own.now }
-    requires tall { tail ≤ slice_index heights.now last }
-    requires lead { lead_in own.now last ≡ Some lead }
-    ensures { IsEarliest own.now heights.now tail result }
-{
-    let mut least = lead;
-    for j in 0..own.len() {
-        least = earlier(least, own[j], heights[j], tail);
-    }
-    least
-}
-
-/// Those that are as tall as instruction `last`, or taller.
-fn crowd_of(own: &[Option<i32>], heights: &Heights, room: Room, last: u16, lead: i32) -> Crowd
-    requires few { length own.now ≤ MOST_INSTRUCTIONS }
-    requires within { last < length own.now }
-    requires lead { lead_in own.now last ≡ Some lead }
-    ensures { IsOwnCrowd own.now heights.now room last result }
-{
-    let tail = heights[usize::from(last)];
-    Crowd {
-        room,
-        lead: earliest(own, heights, tail, last, lead),
-        count: count(own, heights, tail),
-        tail,
-    }
-}
-
-/// The greater of so many cycles, and those of the crowd of these whose tail is the height of instruction `last`.
-fn with_crowd(own: &[Option<i32>], heights: &Heights, room: Room, last: u16, least: u64) -> u64
-    requires few { length own.now ≤ MOST_INSTRUCTIONS }
-    requires within { last < length own.now }
-    ensures { IsWithCrowd own.now heights.now room last least result }
-{
-    match own[usize::from(last)] {
-        Some(lead) => least.max(crowd_of(own, heights, room, last, lead).cycles()),
-        None => least,
-    }
-}
-
-/// The greatest of so many cycles, and those of the crowds for a room.
+/// The greatest of so many cycles, and those of the crowds for a room, by one pass over all that come behind, in falling order
+/// of their heights.
 pub(crate) fn with_room(
     plan: &Plan,
+    order: &[u16],
     room: Room,
+    waits: &Waits,
     leads: &[Option<i32>],
     heights: &Heights,
     least: u64,
 ) -> u64
-    requires { length leads.now ≡ length (insns_of plan.now) }
+    requires long { length leads.now ≡ length (insns_of plan.now) }
+    requires few { length leads.now ≤ MOST_INSTRUCTIONS }
+    requires order { IsOrdered (length (insns_of plan.now)) (slice_index heights.now) order.now }
+    requires leads { CoversLeads order.now (lead_in leads.now) }
+    requires waits { AreWaits (insns_of plan.now) room (length (insns_of plan.now)) waits.now }
     ensures least { least ≤ result }
     ensures covers { CoversCrowds (insns_of plan.now) (slice_index heights.now) (lead_in leads.now) room result }
     ensures attained { (delay : ℕ) → IsReached (insns_of plan.now) (slice_index heights.now) (lead_in leads.now) delay least
         → IsReached (insns_of plan.now) (slice_index heights.now) (lead_in leads.now) delay result }
 {
-    let own = own_leads(plan, room, leads);
-    let mut most = least;
-    for last in 0..plan.len() {
-        most = with_crowd(own.as_slice(), heights, room, last, most);
+    let mut pass = Pass {
+        held: None,
+        most: least,
+    };
+    for k in 0..order.len() {
+        let j = usize::from(order[k]);
+        pass = with_number(pass, room, waits[j], leads[j], heights[j]);
     }
-    most
+    closed(pass.held, pass.most)
 }

@@ -4,12 +4,15 @@ ghost use Rattle.std.specs.Prelude.{◌≡◌, ◌<◌, ◌≤◌, length, slice
 ghost use Rattle.c62_depend.specs.Height.{raised};
 ghost use Rattle.c62_depend.specs.Plan.{insns_of};
 ghost use Rattle.c62_raised.specs.Chain.{lead_in};
+ghost use Rattle.c62_raised.specs.Order.{IsOrder, IsOrdered, CoversLeads, AreAllWaits};
 ghost use Rattle.c62_raised.specs.Raised.{IsRaised, AreRaised};
 ghost use Rattle.c62_raised.specs.Steps.{AreSmall, AreLow, IsWithOne, IsWithOnes};
 
 use crate::crowd::{Heights, with_room};
 use crate::lead::leads;
-use crate::room::ROOMS;
+use crate::order::{Order, insert_by_height};
+use crate::room::{AllWaits, ROOMS};
+use arrayvec::ArrayVec;
 use c62_depend::Plan;
 use c62_read::MOST_INSTRUCTIONS;
 
@@ -45,31 +48,60 @@ fn with_ones(leads: &[Option<i32>], heights: &Heights, delay: u8) -> u64
 
 /// How many cycles follow behind an instruction with this delay: the greatest of this, the cycles of each instruction that
 /// comes behind, and those of each crowd.
-pub(crate) fn raised(plan: &Plan, leads: &[Option<i32>], heights: &Heights, delay: u8) -> u32
+pub(crate) fn raised(
+    plan: &Plan,
+    order: &[u16],
+    waits: &AllWaits,
+    leads: &[Option<i32>],
+    heights: &Heights,
+    delay: u8,
+) -> u32
     requires few { length leads.now ≤ MOST_INSTRUCTIONS }
     requires long { length leads.now ≡ length (insns_of plan.now) }
     requires small { AreSmall leads.now }
+    requires order { IsOrdered (length (insns_of plan.now)) (slice_index heights.now) order.now }
+    requires covers { CoversLeads order.now (lead_in leads.now) }
+    requires waits { AreAllWaits (insns_of plan.now) 16 waits.now }
     requires low { AreLow 1000000 heights.now }
     ensures is { IsRaised (insns_of plan.now) (slice_index heights.now) (lead_in leads.now) delay result }
     ensures low { result ≤ 1001536 }
 {
     let mut most = with_ones(leads, heights, delay);
-    for room in ROOMS {
-        most = with_room(plan, room, leads, heights, most);
+    for k in 0..16 {
+        most = with_room(plan, order, ROOMS[k], &waits[k], leads, heights, most);
     }
     most as u32
 }
 
+/// The raised heights of a block, and its instructions in falling order of these.
+pub(crate) struct Found {
+    /// The height of each instruction.
+    pub(crate) heights: Heights,
+    /// The instructions.
+    pub(crate) order: Order,
+}
+
 /// The raised height of each instruction, found from the last one up.
-pub(crate) fn heights(plan: &Plan) -> Heights
-    ensures raised { AreRaised (insns_of plan.now) (slice_index result) }
-    ensures low { AreLow 1000000 result }
+pub(crate) fn heights(plan: &Plan, waits: &AllWaits) -> Found
+    requires { AreAllWaits (insns_of plan.now) 16 waits.now }
+    ensures order { IsOrder 0 (length (insns_of plan.now)) (slice_index result.heights) result.order.items }
+    ensures raised { AreRaised (insns_of plan.now) (slice_index result.heights) }
+    ensures low { AreLow 1000000 result.heights }
 {
     let mut heights = [0; MOST_INSTRUCTIONS];
+    let mut order = ArrayVec::new();
     for i in (0..plan.len()).rev() {
         let leads = leads(plan, i);
         let delay = plan.insn(i).delay();
-        heights[usize::from(i)] = raised(plan, leads.as_slice(), &heights, delay);
+        heights[usize::from(i)] = raised(
+            plan,
+            order.as_slice(),
+            waits,
+            leads.as_slice(),
+            &heights,
+            delay,
+        );
+        insert_by_height(&mut order, &heights, i);
     }
-    heights
+    Found { heights, order }
 }

@@ -6,6 +6,7 @@ mod height;
 pub mod laws;
 mod lead;
 mod length;
+mod order;
 mod room;
 
 pub use crowd::Crowd;

@@ -2,11 +2,13 @@
 
 ghost use Rattle.std.specs.Prelude.{◌≡◌, ◌↔◌, ◌<◌, length, IsTrue};
 ghost use Rattle.c62_depend.specs.Plan.{insns_of};
+ghost use Rattle.c62_raised.specs.Order.{AreWaits, AreAllWaits};
 ghost use Rattle.c62_raised.specs.Room.{CrossTo, CrossesTo, WaitsIn};
 
 use c62_bound::{Kind, waits_for};
 use c62_depend::Plan;
 use c62_insn::{Operands, Side};
+use c62_read::MOST_INSTRUCTIONS;
 
 /// What takes an instruction or some in a cycle, on a side.
 #[derive(Clone, Copy, PartialEq, Eq, Debug)]
@@ -78,4 +80,32 @@ pub(crate) fn waits_in(plan: &Plan, room: Room, j: u16) -> bool
         Room::Of(kind, side) => waits_for(plan, kind, side, j),
         Room::Cross(side) => crosses_to(plan, side, j),
     }
+}
+
+/// Of each instruction whether it finds room nowhere else.
+pub(crate) type Waits = [bool; MOST_INSTRUCTIONS];
+
+/// Of each instruction of a block whether it finds room nowhere else but in this one.
+fn waits_of(plan: &Plan, room: Room) -> Waits
+    ensures { AreWaits (insns_of plan.now) room (length (insns_of plan.now)) result }
+{
+    let mut waits = [false; MOST_INSTRUCTIONS];
+    for j in 0..plan.len() {
+        waits[usize::from(j)] = waits_in(plan, room, j);
+    }
+    waits
+}
+
+/// Of each room, in their order, which instructions wait for it.
+pub(crate) type AllWaits = [Waits; 16];
+
+/// Of each room, in their order, which instructions of a block wait for it.
+pub(crate) fn all_waits(plan: &Plan) -> AllWaits
+    ensures { AreAllWaits (insns_of plan.now) 16 result }
+{
+    let mut all = [[false; MOST_INSTRUCTIONS]; 16];
+    for k in 0..16 {
+        all[k] = waits_of(plan, ROOMS[k]);
+    }
+    all
 }

@@ -14,18 +14,18 @@ use Rattle.c62_read.specs.declared.limits.TheConstants.{MOST_INSTRUCTIONS}
 pub with_ones-most-requires : goal.with_ones-most-requires
 with_ones-most-requires c = c.requires.few
 
-pub loop-room-preserved : goal.loop-room-preserved
-loop-room-preserved c =
-    let known = c.loop-room.invariant in
+pub loop-k-preserved : goal.loop-k-preserved
+loop-k-preserved c =
+    let known = c.loop-k.invariant in
     let with = c.with_room-most.ensures in
     let up = with.least in
-    let k = c.loop-room.room-index in
+    let k = c.loop-k.k in
     record {
       own = (let own = known.own in omega (arith, own, up));
       ones = λ j before e. (let one = known.ones j before e in omega (arith, one, up));
       crowds = one_more_room (insns_of c.args.plan.now) (slice_index c.args.heights.now) (lead_in c.args.leads.now) k
-          c.loop-room.most c.with_room-most.result
-          (get_or ROOMS k (Of OnL A)) (room_at k (Of OnL A) c.loop-room-test.true) up with.covers known.crowds;
+          c.loop-k.most c.with_room-most.result
+          (get_or ROOMS k (Of OnL A)) (room_at k (Of OnL A) c.loop-k-test.true) up with.covers known.crowds;
       attained = with.attained c.args.delay known.attained;
     }
 
@@ -34,14 +34,17 @@ returns-clause-low c =
     let few : length (insns_of c.args.plan.now) ≤ MOST_INSTRUCTIONS = omega (arith, c.requires.few, c.requires.long) in
     let short : c.args.delay ≤ 255 = omega (arith, c.ranges.delay.fits) in
     raised_low (insns_of c.args.plan.now) (slice_index c.args.heights.now) (lead_in c.args.leads.now) c.args.delay
-    c.loop-room.most 1000000 few short
-    c.requires.small c.requires.low c.loop-room.invariant.attained
+    c.loop-k.most 1000000 few short
+    c.requires.small c.requires.low c.loop-k.invariant.attained
 
 pub overflow_cast-result : goal.overflow_cast-result
 overflow_cast-result c =
     let few : length (insns_of c.args.plan.now) ≤ MOST_INSTRUCTIONS = omega (arith, c.requires.few, c.requires.long) in
     let short : c.args.delay ≤ 255 = omega (arith, c.ranges.delay.fits) in
     let low = raised_low (insns_of c.args.plan.now) (slice_index c.args.heights.now) (lead_in c.args.leads.now)
-    c.args.delay c.loop-room.most 1000000 few short
-    c.requires.small c.requires.low c.loop-room.invariant.attained in
+    c.args.delay c.loop-k.most 1000000 few short
+    c.requires.small c.requires.low c.loop-k.invariant.attained in
     omega (arith, low)
+
+pub with_room-most-requires-clause-waits : goal.with_room-most-requires-clause-waits
+with_room-most-requires-clause-waits c = c.requires.waits c.loop-k.k (Of OnL A) (omega (arith, c.loop-k-test.true))

@@ -9,11 +9,11 @@ use Rattle.c62_raised.specs.Raised.{IsReached}
 use Rattle.c62_raised.specs.Steps.{CoversCrowds}
 use Rattle.c62_raised.proofs.height.raised.Given as goal
 
-abbrev pub invariant-loop-room : goal.invariant-loop-room
-invariant-loop-room l = record {
+abbrev pub invariant-loop-k : goal.invariant-loop-k
+invariant-loop-k l = record {
   own : l.delay ≤ l.most;
   ones : (j : ℕ) (before : ℤ) → lead_in l.leads j ≡ Some before → raised before (slice_index l.heights j) ≤ l.most;
-  crowds : (room : Room) → room_index room < l.room-index
+  crowds : (room : Room) → room_index room < l.k
       → CoversCrowds (insns_of l.plan) (slice_index l.heights) (lead_in l.leads) room l.most;
   attained : IsReached (insns_of l.plan) (slice_index l.heights) (lead_in l.leads) l.delay l.most;
 }
