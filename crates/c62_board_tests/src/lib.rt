@@ -16,3 +16,5 @@ mod shortest;
 mod show;
 #[cfg(test)]
 mod view;
+#[cfg(test)]
+mod work;

@@ -7,7 +7,7 @@ use c62_board::{Board, Turn};
 use c62_insn::Side;
 
 /// Whether the sides go on after this turn.
-pub(crate) fn goes_on(turn: Turn) -> bool
+pub fn goes_on(turn: Turn) -> bool
     ensures { IsTrue result ↔ GoesOn turn }
 {
     match turn {

@@ -13,16 +13,16 @@ use std::sync::{MutexGuard, Wait};
 use std::time::Duration;
 
 /// Nothing has come since this worker was idle.
-const QUIET: u64 = 0;
+pub const QUIET: u64 = 0;
 
 /// The other worker called: there may be something to place.
-const RUNG: u64 = 1;
+pub const RUNG: u64 = 1;
 
 /// Nothing has come, and this worker sleeps.
-const ASLEEP: u64 = 2;
+pub const ASLEEP: u64 = 2;
 
 /// The other worker has ended, or there is none: nobody is waited for.
-const ALONE: u64 = 3;
+pub const ALONE: u64 = 3;
 
 /// How often a worker looks before it sleeps. It never leaves its processor without sleeping: where all processors are busy
 /// it would get that back late, and one that sleeps is put on when it is called.
@@ -33,8 +33,9 @@ const NAP_MILLIS: u64 = 2;
 
 /// What wakes the worker of one side.
 #[derive(Drop)]
-struct Bell {
-    word: AtomicU64,
+pub struct Bell {
+    /// [`QUIET`], [`RUNG`], [`ASLEEP`] or [`ALONE`].
+    pub word: AtomicU64,
 }
 
 impl Bell {
@@ -52,7 +53,7 @@ impl Bell {
     }
 
     /// Calls the worker, where it is not called already and has somebody to wait for.
-    fn ring(&self) {
+    pub fn ring(&self) {
         let seen = self.word.load(Ordering::SeqCst);
         if seen == QUIET || seen == ASLEEP {
             self.tell(RUNG);
@@ -68,7 +69,7 @@ impl Bell {
 
     /// Waits until the worker is called, where there is another one that may call it, and not for longer than it looks
     /// and naps.
-    fn wait<R: Wait>(&self, rt: &R, nap: Duration) {
+    pub fn wait<R: Wait>(&self, rt: &R, nap: Duration) {
         for _ in 0..LOOKS {
             if self.word.load(Ordering::SeqCst) != QUIET {
                 return;
@@ -102,9 +103,11 @@ impl Owed<'_> {
 
 /// A bell for each of two workers.
 #[derive(Drop)]
-pub(crate) struct Bells {
-    first: Bell,
-    second: Bell,
+pub struct Bells {
+    /// That of side A.
+    pub first: Bell,
+    /// That of side B.
+    pub second: Bell,
 }
 
 fn other(side: Side) -> Side
@@ -136,7 +139,7 @@ fn is_called(side: Side, came: Turn, board: &Board) -> bool
 
 impl Bells {
     /// For two workers that are both called.
-    pub(crate) fn new() -> Bells {
+    pub fn new() -> Bells {
         Bells {
             first: Bell::new(),
             second: Bell::new(),
@@ -185,10 +188,7 @@ impl Bells {
     }
 
     /// A side's worker has ended, or there is none.
-    pub(crate) fn ended(&self, side: Side) {
+    pub fn ended(&self, side: Side) {
         self.of(other(side)).tell(ALONE);
     }
 }
-
-#[cfg(test)]
-mod tests;

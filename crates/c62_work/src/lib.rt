@@ -3,26 +3,15 @@
 #![tactic(auto)]
 
 mod alternating;
-mod bells;
+pub mod bells;
 mod finishing;
 mod gate;
 pub mod rounds;
 mod scheduling;
 mod workers;
 
-pub use alternating::turns;
+pub use alternating::{goes_on, turns};
 pub use finishing::finish;
 pub use gate::{FreeGate, Gate};
 pub use scheduling::{Options, schedule};
-pub use workers::worker;
-
-#[cfg(test)]
-mod expect;
-#[cfg(test)]
-mod gate_tests;
-#[cfg(test)]
-mod stopped_tests;
-#[cfg(test)]
-mod tests;
-#[cfg(test)]
-mod worker_tests;
+pub use workers::{take_turn, worker};

@@ -73,7 +73,7 @@ fn turn_on<R: Wait>(rt: &R, desk: &mut Desk, planned: Option<Proposal>, side: Si
 }
 
 /// Makes a side's turn on the desk behind a lock, as [`turn_on`] does, and pays what it owes once the lock is free.
-pub(crate) fn take_turn<R: Wait>(
+pub fn take_turn<R: Wait>(
     rt: &R,
     desk: &Mutex<Desk>,
     planned: Option<Proposal>,

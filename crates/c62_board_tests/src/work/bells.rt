@@ -1,11 +1,11 @@
 //! What turns leave on the bells, and whom a call wakes.
 
-use super::{ALONE, ASLEEP, Bell, Bells, QUIET, RUNG};
 use crate::expect::equal;
-use crate::worker_tests::{SUM, desk_on, wait_for};
-use crate::workers::take_turn;
+use crate::work::worker::{SUM, desk_on, wait_for};
 use c62_insn::Side::{self, A, B};
 use c62_view::Desk;
+use c62_work::bells::{ALONE, ASLEEP, Bell, Bells, QUIET, RUNG};
+use c62_work::take_turn;
 use std::alloc::{AllocError, Global};
 use std::sync::atomic::{AtomicU64, Ordering};
 use std::sync::{Mutex, Wait};

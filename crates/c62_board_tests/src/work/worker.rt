@@ -3,14 +3,14 @@
 ghost use Rattle.std.specs.Prelude.{◌≡◌, IfOk};
 
 use crate::expect::{equal, equal_in};
-use crate::rounds::{serve, serve_two};
-use crate::{FreeGate, Gate, Options, schedule, worker};
 use c62_board::{Board, Entry, Proposal, Spot, Turn, Who};
 use c62_depend::Plan;
 use c62_insn::{Letter, Side, Unit};
 use c62_op::InstructionSet;
 use c62_read::read_program;
 use c62_view::{Desk, Viewer, desk_of};
+use c62_work::rounds::{serve, serve_two};
+use c62_work::{FreeGate, Gate, Options, schedule, worker};
 use std::alloc::Global;
 use std::hint::spin_loop;
 use std::process::Abort;

@@ -1,11 +1,11 @@
 //! What a gate is told of a worker's turns.
 
 use crate::expect::equal;
-use crate::worker_tests::{SUM, desk_on, journal_text, plan_of};
-use crate::{Gate, Options, schedule, worker};
+use crate::work::worker::{SUM, desk_on, journal_text, plan_of};
 use c62_board::{Spot, Turn};
 use c62_insn::{Letter, Side, Unit};
 use c62_view::{Desk, Viewer};
+use c62_work::{Gate, Options, schedule, worker};
 use std::cell::Cell;
 use std::sync::atomic::{AtomicU64, Ordering};
 use std::sync::{Mutex, MutexGuard, Wait};

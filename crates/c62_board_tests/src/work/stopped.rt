@@ -1,12 +1,11 @@
 //! Schedules of few turns, and workers that stop early or are held back.
 
-use crate::alternating::goes_on;
-use crate::tests::{board_again, plan_again};
-use crate::worker_tests::wait_for;
-use crate::{FreeGate, Gate, Options, finish, schedule, worker};
+use crate::work::turns::{board_again, plan_again};
+use crate::work::worker::wait_for;
 use c62_board::{Board, Entry, Turn, Who, who_of};
 use c62_insn::Side;
 use c62_view::desk_of;
+use c62_work::{FreeGate, Gate, Options, finish, goes_on, schedule, worker};
 use std::alloc::Global;
 use std::process::Abort;
 use std::sync::atomic::{AtomicU64, Ordering};

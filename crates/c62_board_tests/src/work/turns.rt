@@ -1,12 +1,12 @@
 //! Worked blocks: steps of both sides in turn, and finishing.
 
 use crate::expect::{equal, equal_in};
-use crate::{FreeGate, Options, finish, schedule, turns};
 use c62_board::{Board, Entry, Spot, Turn, Who};
 use c62_depend::Plan;
 use c62_insn::{Letter, Side, Unit};
 use c62_op::InstructionSet;
 use c62_read::read_program;
+use c62_work::{FreeGate, Options, finish, schedule, turns};
 use std::alloc::Global;
 use std::process::Abort;
 use std::test::Fail;
