@@ -1,4 +1,4 @@
-//! The tests of what no command shows of texts, packets and loops. All else that is asked of them stands in tests/cases.
+//! The tests of what no command shows of texts, packets, loops and runs. All else that is asked of them stands in tests/cases.
 
 #![tactic(auto)]
 
@@ -28,6 +28,8 @@ mod packet;
 mod read;
 #[cfg(test)]
 mod rows;
+#[cfg(test)]
+mod runs;
 #[cfg(test)]
 mod traced;
 #[cfg(test)]
