@@ -1,4 +1,4 @@
-//! The tests of what no command shows of texts, packets, loops and runs. All else that is asked of them stands in tests/cases.
+//! The tests of what no command shows of instructions, texts, packets, loops and runs. All else that is asked of them stands in tests/cases.
 
 #![tactic(auto)]
 
@@ -12,6 +12,8 @@ mod adopt_spell;
 mod exec;
 #[cfg(test)]
 mod expect;
+#[cfg(test)]
+mod insn;
 #[cfg(test)]
 mod kernels;
 #[cfg(test)]
