@@ -1,38 +1,27 @@
-//! The tests of what no command shows of instructions, texts, packets, loops and runs. All else that is asked of them stands in tests/cases.
+//! The tests of what no command shows of instructions, texts, packets, plans, placements, loops and runs. All else that is asked of them
+//! stands in tests/cases.
 
 #![tactic(auto)]
 
 #[cfg(test)]
-mod adopt_cut;
+mod adopt;
 #[cfg(test)]
-mod adopt_line;
-#[cfg(test)]
-mod adopt_spell;
-#[cfg(test)]
-mod exec;
+mod common;
 #[cfg(test)]
 mod expect;
 #[cfg(test)]
+mod flight;
+#[cfg(test)]
 mod insn;
 #[cfg(test)]
-mod kernels;
+mod loops;
 #[cfg(test)]
-mod loop_bound;
-#[cfg(test)]
-mod loop_match;
-#[cfg(test)]
-mod loop_text;
-#[cfg(test)]
-mod modulo;
-#[cfg(test)]
-mod packet;
+mod plan;
 #[cfg(test)]
 mod read;
 #[cfg(test)]
-mod rows;
-#[cfg(test)]
 mod runs;
 #[cfg(test)]
-mod traced;
+mod schedule;
 #[cfg(test)]
-mod unpack;
+mod sheet;

@@ -5,37 +5,60 @@ use c62_insn::Operands;
 use c62_line::{Cause, ReadFault};
 use c62_op::InstructionSet;
 use c62_read::{Block, read_program};
+use std::alloc::Global;
 use std::test::Fail;
 
-/// The number of the block that a block's last instruction branches to.
-fn target(block: &Block) -> Option<u8> {
-    match block.insns().last()?.insn.operands() {
-        Operands::Block(number) => Some(number),
-        _ => None,
+/// Texts and their blocks: a colon for a label, the lines of the instructions, and the block that the last of them branches to.
+const BLOCKS: [(&str, &str); 2] = [
+    (
+        "MVK 3,A1\nL: SUB A1,1,A1\n\n[A1] B L\nMVK 2,A2\n",
+        "1 ;:2 4 >1;5 ;",
+    ),
+    (
+        "MVK 3,A1\nL: SUB A1,1,A1\n[A1] B L\nM: NOP\nB B3\nN:",
+        "1 ;:2 3 >1;:5 ;:;",
+    ),
+];
+
+fn push_block(out: &mut String, alloc: Global, block: &Block) -> Result<(), Fail> {
+    if block.label().is_some() {
+        out.push(':')?;
     }
+    for entry in block.insns() {
+        out.push_str(&format!(in alloc; "{} ", entry.line)?)?;
+    }
+    if let Some(last) = block.insns().last()
+        && let Operands::Block(number) = last.insn.operands()
+    {
+        out.push_str(&format!(in alloc; ">{number}")?)?;
+    }
+    out.push(';')?;
+    Ok(())
 }
 
+/// Where memory is refused, a text is answered rightly or by Memory, and so is a copy.
 #[test]
 fn blocks_and_their_copies(rt: HostRuntime) -> Result<(), Fail> {
-    let text = "MVK 3,A1\nL: SUB A1,1,A1\n\n[A1] B L\nMVK 2,A2\n";
-    let wants = [
-        (false, &[1u32][..], None),
-        (true, &[2, 4], Some(1)),
-        (false, &[5], None),
-    ];
-    let program = read_program(InstructionSet::Core, rt.alloc(), text.as_bytes())?;
-    equal(&rt, &program.blocks().len(), &wants.len());
-    for (block, (labelled, lines, aim)) in program.blocks().iter().zip(wants) {
-        let copy = block.copy(rt.alloc())?;
-        equal(&rt, &copy.label().is_some(), &labelled);
-        equal(&rt, &copy.insns().len(), &lines.len());
-        for (entry, line) in copy.insns().iter().zip(lines) {
-            equal(&rt, &entry.line, line);
+    for (text, want) in &BLOCKS {
+        match read_program(InstructionSet::Core, rt.alloc(), text.as_bytes()) {
+            Ok(program) => {
+                let mut found = String::new(rt.alloc());
+                let mut copied = String::new(rt.alloc());
+                for block in program.blocks() {
+                    push_block(&mut found, rt.alloc(), block)?;
+                    match block.copy(rt.alloc()) {
+                        Ok(copy) => push_block(&mut copied, rt.alloc(), &copy)?,
+                        Err(_) => push_block(&mut copied, rt.alloc(), block)?,
+                    }
+                }
+                equal_in(&rt, text, &found.as_str(), want);
+                equal_in(&rt, text, &copied.as_str(), want);
+                let count = program.blocks().len();
+                equal(&rt, &program.into_blocks().len(), &count);
+            }
+            Err(fault) => equal_in(&rt, text, &fault, &ReadFault::at(0, Cause::Memory)),
         }
-        equal(&rt, &target(block), &aim);
-        equal(&rt, &target(&copy), &aim);
     }
-    equal(&rt, &program.into_blocks().len(), &wants.len());
     Ok(())
 }
 
@@ -58,30 +81,6 @@ fn each_byte_at_each_index(rt: HostRuntime) -> Result<(), Fail> {
             equal_in(&rt, &(byte, index), &is_foreign, &(!allowed && !ends_line));
         }
         text[index] = kept;
-    }
-    Ok(())
-}
-
-/// Where memory is refused, a text is answered rightly or by Memory, and so is a copy.
-#[test]
-fn memory_or_the_answer(rt: HostRuntime) -> Result<(), Fail> {
-    let text = b"MVK 3,A1\nL: SUB A1,1,A1\n[A1] B L\nM: NOP\nB B3\nN:";
-    match read_program(InstructionSet::Core, rt.alloc(), text) {
-        Ok(program) => {
-            equal(&rt, &program.blocks().len(), &4);
-            for block in program.blocks() {
-                if let Ok(copy) = block.copy(rt.alloc()) {
-                    equal(&rt, &copy.insns().len(), &block.insns().len());
-                }
-            }
-        }
-        Err(fault) => {
-            let want = ReadFault {
-                line: 0,
-                cause: Cause::Memory,
-            };
-            equal(&rt, &fault, &want);
-        }
     }
     Ok(())
 }
