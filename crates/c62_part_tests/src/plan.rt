@@ -284,6 +284,8 @@ fn long_blocks(rt: HostRuntime) -> Result<(), Fail> {
     equal(&rt, &plan.block().insns()[9].line, &10);
     let copy = plan.copy(rt.alloc())?;
     assert!(rt; copy.same(&plan));
+    equal(&rt, &copy.len(), &256);
+    equal(&rt, &copy.height(0), &255);
     equal(&rt, &copy.needs(255).len(), &1);
     Ok(())
 }

@@ -252,6 +252,8 @@ fn changes_and_counts(rt: HostRuntime) -> Result<(), Fail> {
         assert!(rt; !sheet.apply(entry));
         equal(&rt, &sheet.counts(), &FOUR);
     }
+    equal(&rt, &sheet.pick(A), &Some(4));
+    equal(&rt, &sheet.pick(B), &None);
     assert_eq!(rt; sheet.plan().len(), 6);
     assert!(rt; sheet.ready(4) && !sheet.ready(5) && sheet.is_last(3) && !sheet.is_last(2));
     let early = sheet.early(4);
