@@ -1,3 +1,4 @@
 mod Came
 mod Packed
+mod Sums
 mod Words

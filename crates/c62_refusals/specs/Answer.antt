@@ -16,7 +16,7 @@ use Rattle.c62_view.specs.declared.desk.DeskFault.{DeskFault}
 use Rattle.c62_view.specs.declared.desk.DeskFault.TheVariants.{Memory as NoDesk}
 use Rattle.c62_pack.specs.declared.fault.AtFault.{AtFault}
 use Rattle.c62_pack.specs.declared.fault.AtFault.TheVariants.{Memory as NotPacked}
-use Rattle.c62_seen.specs.Digest.{digest_of}
+use Rattle.c62_refusals.specs.Digest.{digest_of}
 use Rattle.c62_refusals.specs.declared.answer.TheConstants.{FAULT}
 
 -- nothing where memory was refused, and else the sum over what is seen of the value; all other faults are one number

@@ -1,3 +1,13 @@
+pub mod Desk
+pub mod Digest
+pub mod Common
+pub mod Insn
+pub mod Program
+pub mod Plan
+pub mod Board
+pub mod Check
+pub mod Packets
+pub mod State
 pub mod Answer
 pub mod Given
 pub mod Opening

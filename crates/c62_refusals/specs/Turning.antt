@@ -2,10 +2,10 @@
 use Rattle.std.specs.Prelude.{ℕ, List, ◌++◌, Bool, false, ◌==◌, nat_le, length, take, if◌then◌else◌}
 use Rattle.c62_sheet.specs.declared.entry.Entry.{Entry}
 use Rattle.c62_refusals.specs.declared.turning.Turning.{Turning}
-use Rattle.c62_seen.specs.Digest.{digest_of}
-use Rattle.c62_seen.specs.Common.{of_bool, of_list}
-use Rattle.c62_seen.specs.Board.{of_entry}
-use Rattle.c62_seen.specs.Plan.{of_plan}
+use Rattle.c62_refusals.specs.Digest.{digest_of}
+use Rattle.c62_refusals.specs.Common.{of_bool, of_list}
+use Rattle.c62_refusals.specs.Board.{of_entry}
+use Rattle.c62_refusals.specs.Plan.{of_plan}
 
 -- the sum over entries
 abbrev pub look_of : List Entry → ℕ

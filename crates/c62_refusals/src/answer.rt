@@ -4,11 +4,11 @@ ghost use Rattle.std.specs.Prelude.{◌≡◌, ◌≢◌, ◌++◌, Bool, true, 
 ghost use Rattle.c62_board.specs.declared.turn.Turn.TheVariants.{Memory};
 ghost use Rattle.c62_refusals.specs.Answer.{answer_of, is_no_memory, is_unlisted, is_unplaced, is_uncommitted, is_unwithdrawn, is_unreplayed, is_no_desk, is_unpacked};
 
+use crate::seen::{Seen, look_at};
 use c62_board::{CommitFault, PlaceFault, ReplayFault, Turn, WithdrawFault};
 use c62_listing_reader::ListFault;
 use c62_pack::AtFault;
 use c62_read::{Cause, ReadFault};
-use c62_seen::{Seen, look_at};
 use c62_view::DeskFault;
 use std::alloc::AllocError;
 

@@ -14,6 +14,7 @@ mod packing;
 mod placing;
 mod reading;
 mod running;
+mod seen;
 mod sharing;
 mod telling;
 mod texts;

@@ -4,13 +4,13 @@ ghost use Rattle.std.specs.Prelude.{◌≡◌, None};
 
 use crate::answer::answered;
 use crate::given::{packed, whole_board, with_block};
+use crate::seen::look_at;
 use crate::twice::{Came, twice};
 use c62_board::{Board, Spot};
 use c62_depend::Plan;
 use c62_pack::{packets_at, packets_of};
 use c62_packet::{PacketBlock, Packets};
 use c62_read::MOST_BLOCKS;
-use c62_seen::look_at;
 use std::alloc::Global;
 
 /// Makes the packets of a board.

@@ -7,12 +7,12 @@ ghost use Rattle.c62_refusals.specs.Placing.{among, IsNext, IsProposed, IsFirst}
 
 use crate::answer::{answered, taken};
 use crate::given::{BUDGET, begun_board, plan_of, whole_board};
+use crate::seen::look_at;
 use crate::turning::Turning;
 use crate::twice::{Came, twice};
 use c62_board::{Board, Entry, Proposal, ReplayFault, Who};
 use c62_depend::Plan;
 use c62_insn::Side;
-use c62_seen::look_at;
 use c62_work::{finish, turns};
 use std::alloc::Global;
 

@@ -4,6 +4,7 @@ ghost use Rattle.std.specs.Prelude.{◌≡◌, None};
 
 use crate::answer::answered;
 use crate::given::{block_of, listing_of, packets_in, plan_of, program_of};
+use crate::seen::look_at;
 use crate::twice::{Came, twice};
 use c62_check::check;
 use c62_depend::Plan;
@@ -11,7 +12,6 @@ use c62_listing::list;
 use c62_listing_reader::read_listing;
 use c62_op::InstructionSet;
 use c62_read::{Block, read_program};
-use c62_seen::look_at;
 use std::alloc::Global;
 
 /// Reads a text.

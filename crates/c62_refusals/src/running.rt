@@ -1,16 +1,16 @@
 //! Calls that run blocks and programs.
 
 ghost use Rattle.std.specs.Prelude.{◌≡◌, ◌++◌, None, Some, Contains, IfOk, OnErr};
-ghost use Rattle.c62_seen.specs.Digest.{digest_of};
-ghost use Rattle.c62_seen.specs.State.{of_contents};
+ghost use Rattle.c62_refusals.specs.Digest.{digest_of};
+ghost use Rattle.c62_refusals.specs.State.{of_contents};
 ghost use Rattle.c62_refusals.specs.declared.answer.TheConstants.{FAULT as OTHER_FAULT};
 
 use crate::answer::{FAULT, answered};
 use crate::given::{block_of, packed, packets_in, program_of, whole_board};
 use crate::opening::opening;
+use crate::seen::{Seen, look_at};
 use crate::twice::{Came, twice};
 use c62_pipe::{Pipe, run_chain};
-use c62_seen::{Seen, look_at};
 use c62_serial::{State, run_block, run_program};
 use std::alloc::{AllocError, Global};
 

@@ -3,8 +3,8 @@
 ghost use Rattle.std.specs.Prelude.{◌≡◌, ◌++◌};
 ghost use Rattle.c62_refusals.specs.Turning.{is_front, of_turning};
 
+use crate::seen::{Digest, Seen, look_at};
 use c62_board::{Board, Entry};
-use c62_seen::{Digest, Seen, look_at};
 
 /// A board on which sides take turns, and the journal that they come to.
 #[derive(Drop)]

@@ -2,10 +2,10 @@
 
 ghost use Rattle.std.specs.Prelude.{◌≡◌, IfSome};
 ghost use Rattle.std.specs.Fn.{FnReturnsAt};
-ghost use Rattle.c62_seen.specs.Digest.{digest_of};
+ghost use Rattle.c62_refusals.specs.Digest.{digest_of};
 ghost use Rattle.c62_refusals.specs.Twice.{FnReturnsAtMut, CameOf};
 
-use c62_seen::{Seen, look_at};
+use crate::seen::{Seen, look_at};
 
 /// What came of a call.
 #[derive(Clone, Copy, PartialEq, Eq, Debug)]

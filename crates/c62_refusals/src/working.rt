@@ -2,10 +2,10 @@
 
 use crate::given::{begun_board, plan_of};
 use crate::placing::side_of;
+use crate::seen::look_at;
 use crate::twice::{Came, twice, twice_on};
 use c62_board::Turn;
 use c62_insn::Side;
-use c62_seen::look_at;
 use c62_view::{Desk, Viewer, desk_of};
 use c62_work::{Gate, Options, schedule, worker};
 use std::alloc::Global;

@@ -1,5 +1,5 @@
 use Rattle.std.proofs.Common.{rules, ◌≡◌, refl}
-use Rattle.c62_seen.specs.Digest.{digest_of}
+use Rattle.c62_refusals.specs.Digest.{digest_of}
 use Rattle.c62_refusals.specs.Twice.{FnReturnsAtMut, CameOf}
 use Rattle.c62_refusals.proofs.Came.{came_by}
 use Rattle.c62_refusals.proofs.twice.twice.Goals as goal
