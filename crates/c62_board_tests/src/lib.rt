@@ -7,6 +7,8 @@ mod board;
 #[cfg(test)]
 mod expect;
 #[cfg(test)]
+mod faults;
+#[cfg(test)]
 mod pack;
 #[cfg(test)]
 mod pages;

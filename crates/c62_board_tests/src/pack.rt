@@ -272,18 +272,6 @@ fn packets_at_spots(rt: HostRuntime) -> Result<(), Fail> {
     Ok(())
 }
 
-#[test]
-fn faults_have_texts(rt: HostRuntime) -> Result<(), Fail> {
-    for (fault, text) in [
-        (AtFault::NotLawful, "NotLawful"),
-        (AtFault::Memory, "Memory"),
-    ] {
-        let told = format!(in rt.alloc(); "{fault}")?;
-        equal(&rt, &told.as_str(), &text);
-    }
-    Ok(())
-}
-
 /// As many instructions as a block can have, each in a cycle of its own.
 #[test]
 fn a_full_block(rt: HostRuntime) -> Result<(), Fail> {

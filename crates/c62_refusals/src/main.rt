@@ -1,10 +1,10 @@
 //! The program c62_refusals: makes a call of c62's crates on a text, and again where memory was refused.
 //!
 //! Its words are the call, the name of the text, and for `worker` and `schedule` the most turns of a worker, for `schedule` also
-//! the most ejections. It prints
-//! a number that stands for the answer; `again` on standard error where that is the answer to the second call; and `changed`,
-//! with status 1, where a refused call left something else than before. Status 3 means that memory was refused to what the call
-//! is made on, or to both calls, and that all stayed as it was.
+//! the most ejections. `take` is refused so often as the third word says, and each time leaves so much less of its answer, 7, as
+//! the fourth says. It prints a number that stands for the answer; `again` on standard error where that is the answer to the second
+//! call; and `changed`, with status 1, where a refused call left something else than before. Status 3 means that memory was refused
+//! to what the call is made on, or to both calls, and that all stayed as it was.
 #![tactic(auto)]
 
 mod answer;
@@ -16,6 +16,7 @@ mod reading;
 mod running;
 mod seen;
 mod sharing;
+mod taking;
 mod telling;
 mod texts;
 mod turning;
@@ -78,6 +79,7 @@ fn made<R: AllocGlobal + Threads + Wait + Sync>(
         "Desk::commit" => sharing::commits(rt, rt.alloc(), text),
         "worker" => working::works(rt, rt.alloc(), text, options.turns),
         "schedule" => working::schedules(rt, rt.alloc(), text, options),
+        "take" => Some(taking::takes(options)),
         _ => alone(rt.alloc(), call, text),
     }
 }
@@ -109,8 +111,3 @@ fn main(rt: HostRuntime) -> ExitCode {
     let told = tell(&mut rt.stdout(), &mut rt.stderr(), came);
     ExitCode::from(told.unwrap_or(4))
 }
-
-#[cfg(test)]
-mod fault_tests;
-#[cfg(test)]
-mod tests;

@@ -8,7 +8,7 @@ ghost use Rattle.c62_refusals.specs.Twice.{FnReturnsAtMut, CameOf};
 use crate::seen::{Seen, look_at};
 
 /// What came of a call.
-#[derive(Clone, Copy, PartialEq, Eq, Debug)]
+#[derive(Clone, Copy)]
 pub(crate) enum Came {
     /// It answered this.
     Answer(u64),
