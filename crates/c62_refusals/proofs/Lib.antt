@@ -1,4 +1,2 @@
-mod Came
 mod Packed
-mod Sums
 mod Words

@@ -19,7 +19,6 @@ mod sharing;
 mod taking;
 mod telling;
 mod texts;
-mod turning;
 mod twice;
 mod working;
 

@@ -2,13 +2,13 @@
 
 ghost use Rattle.std.specs.Prelude.{◌≡◌, None};
 
-use crate::answer::answered;
+use crate::answer::refused;
 use crate::given::{packed, whole_board, with_block};
 use crate::seen::look_at;
 use crate::twice::{Came, twice};
 use c62_board::{Board, Spot};
 use c62_depend::Plan;
-use c62_pack::{packets_at, packets_of};
+use c62_pack::{AtFault, packets_at, packets_of};
 use c62_packet::{PacketBlock, Packets};
 use c62_read::MOST_BLOCKS;
 use std::alloc::Global;
@@ -19,7 +19,8 @@ pub(crate) fn packs(alloc: Global, text: &str) -> Option<Came> {
         if !board.complete() {
             return None;
         }
-        answered(&packets_of(alloc, board), &())
+        let block = packets_of(alloc, board).ok()?;
+        Some(look_at(&block))
     })
 }
 
@@ -36,8 +37,12 @@ fn spots_of(alloc: Global, board: &Board) -> Option<(Plan, Vec<Spot>)> {
 /// Makes the packets of a plan at spots.
 pub(crate) fn packs_at(alloc: Global, text: &str) -> Option<Came> {
     let board = whole_board(alloc, text)?;
-    twice(spots_of(alloc, &board)?, |given| {
-        answered(&packets_at(alloc, &given.0, &given.1), &())
+    let (plan, spots) = spots_of(alloc, &board)?;
+    twice(plan, |plan| {
+        match packets_at(alloc, plan, &spots) {
+            Ok(block) => Some(look_at(&block)),
+            Err(fault) => refused(matches!(fault, AtFault::Memory)),
+        }
     })
 }
 

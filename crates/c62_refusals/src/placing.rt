@@ -5,12 +5,11 @@ ghost use Rattle.c62_depend.specs.Plan.{insns_of};
 ghost use Rattle.c62_sheet.specs.Least.{Picks};
 ghost use Rattle.c62_refusals.specs.Placing.{among, IsNext, IsProposed, IsFirst};
 
-use crate::answer::{answered, taken};
+use crate::answer::{refused, taken};
 use crate::given::{BUDGET, begun_board, plan_of, whole_board};
-use crate::seen::look_at;
-use crate::turning::Turning;
-use crate::twice::{Came, twice};
-use c62_board::{Board, Entry, Proposal, ReplayFault, Who};
+use crate::seen::{look_at, look_of};
+use crate::twice::{Came, twice, twice_on};
+use c62_board::{Board, CommitFault, Entry, PlaceFault, Proposal, ReplayFault, Who, WithdrawFault};
 use c62_depend::Plan;
 use c62_insn::Side;
 use c62_work::{finish, turns};
@@ -55,7 +54,7 @@ fn replay_board(alloc: Global, plan: &mut Option<Plan>, entries: &[Entry]) -> Op
         Ok(board) => Some(look_at(&board)),
         Err((back, fault)) => {
             *plan = Some(back);
-            answered(&Result::<(), ReplayFault>::Err(fault), &())
+            refused(matches!(fault, ReplayFault::Memory))
         }
     }
 }
@@ -63,10 +62,7 @@ fn replay_board(alloc: Global, plan: &mut Option<Plan>, entries: &[Entry]) -> Op
 /// Replays the journal of a whole board with its plan, which comes back.
 pub(crate) fn replays(alloc: Global, text: &str) -> Option<Came> {
     let (plan, entries) = course_of(alloc, &whole_board(alloc, text)?)?;
-    twice(
-        (Some(plan), entries),
-        |given| replay_board(alloc, &mut given.0, &given.1),
-    )
+    twice(Some(plan), |plan| replay_board(alloc, plan, &entries))
 }
 
 /// A side that has something to place, where one has.
@@ -114,23 +110,26 @@ pub(crate) fn proposed(board: &Board) -> Option<Proposal>
 pub(crate) fn looks_ahead(alloc: Global, text: &str) -> Option<Came> {
     twice(begun_board(alloc, text)?, |board| {
         let (turn, entries) = board.ahead(side_of(board)).ok()?;
-        Some(look_at(&(turn, entries.as_slice())))
+        Some(look_of(&(turn, entries.as_slice()), board))
     })
 }
 
 /// Makes room for entries.
 pub(crate) fn makes_room(alloc: Global, text: &str) -> Option<Came> {
-    twice(
-        begun_board(alloc, text)?,
-        |board| answered(&board.room(100), board),
-    )
+    twice(begun_board(alloc, text)?, |board| {
+        board.room(100).ok()?;
+        Some(look_at(board))
+    })
 }
 
 /// Places what is next.
 pub(crate) fn places(alloc: Global, text: &str) -> Option<Came> {
     twice(begun_board(alloc, text)?, |board| {
         let number = next_of(board)?;
-        answered(&board.place(number, Who::Tail), board)
+        match board.place(number, Who::Tail) {
+            Ok(spot) => Some(look_of(&spot, board)),
+            Err(fault) => refused(matches!(fault, PlaceFault::Memory)),
+        }
     })
 }
 
@@ -138,7 +137,10 @@ pub(crate) fn places(alloc: Global, text: &str) -> Option<Came> {
 pub(crate) fn commits(alloc: Global, text: &str) -> Option<Came> {
     twice(begun_board(alloc, text)?, |board| {
         let proposal = proposed(board)?;
-        answered(&board.commit(&proposal, Who::Tail), board)
+        match board.commit(&proposal, Who::Tail) {
+            Ok(spot) => Some(look_of(&spot, board)),
+            Err(fault) => refused(matches!(fault, CommitFault::Memory)),
+        }
     })
 }
 
@@ -155,7 +157,10 @@ fn first_of(board: &Board) -> Option<u16>
 pub(crate) fn withdraws(alloc: Global, text: &str) -> Option<Came> {
     twice(begun_board(alloc, text)?, |board| {
         let number = first_of(board)?;
-        answered(&board.withdraw(number, Who::Tail), board)
+        match board.withdraw(number, Who::Tail) {
+            Ok(count) => Some(look_of(&count, board)),
+            Err(fault) => refused(matches!(fault, WithdrawFault::Memory)),
+        }
     })
 }
 
@@ -163,29 +168,36 @@ pub(crate) fn withdraws(alloc: Global, text: &str) -> Option<Came> {
 pub(crate) fn steps(alloc: Global, text: &str) -> Option<Came> {
     twice(begun_board(alloc, text)?, |board| {
         let turn = board.step(side_of(board));
-        answered(&taken(turn), board)
+        Some(look_of(&taken(turn)?, board))
     })
 }
 
-/// Takes all turns of both sides.
+/// Takes all turns of both sides. Those before a refused one stay: the journal is then a front of the whole one.
 pub(crate) fn turns_taken(alloc: Global, text: &str) -> Option<Came> {
     let (plan, whole) = course_of(alloc, &whole_board(alloc, text)?)?;
-    let Ok(board) = Board::new(alloc, plan, BUDGET) else {
+    let Ok(mut board) = Board::new(alloc, plan, BUDGET) else {
         return None;
     };
-    twice(Turning { board, whole }, |turning| {
-        let turn = turns(&mut turning.board);
-        answered(&taken(turn), &turning.board)
-    })
+    let came = twice_on(
+        &mut board,
+        &|board| look_of(&whole.starts_with(board.journal()), board.plan()),
+        &|board| {
+            let turn = turns(board);
+            Some(look_of(&taken(turn)?, board))
+        },
+    );
+    Some(came)
 }
 
 /// Places what a board lacks.
 pub(crate) fn finishes(alloc: Global, text: &str) -> Option<Came> {
-    twice(course_of(alloc, &begun_board(alloc, text)?)?, |course| {
-        let plan = course.0.copy(alloc).ok()?;
-        let Ok(board) = Board::replay(alloc, plan, BUDGET, &course.1) else {
+    let (plan, entries) = course_of(alloc, &begun_board(alloc, text)?)?;
+    twice(plan, |plan| {
+        let copy = plan.copy(alloc).ok()?;
+        let Ok(board) = Board::replay(alloc, copy, BUDGET, &entries) else {
             return None;
         };
-        answered(&finish(alloc, board, &course.0), &())
+        let finished = finish(alloc, board, plan).ok()?;
+        Some(look_at(&finished))
     })
 }

@@ -2,38 +2,46 @@
 
 ghost use Rattle.std.specs.Prelude.{◌≡◌, None};
 
-use crate::answer::answered;
+use crate::answer::refused;
 use crate::given::{block_of, listing_of, packets_in, plan_of, program_of};
-use crate::seen::look_at;
+use crate::seen::{look_at, look_of};
 use crate::twice::{Came, twice};
 use c62_check::check;
 use c62_depend::Plan;
 use c62_listing::list;
-use c62_listing_reader::read_listing;
+use c62_listing_reader::{ListFault, read_listing};
 use c62_op::InstructionSet;
-use c62_read::{Block, read_program};
+use c62_read::{Block, Cause, read_program};
 use std::alloc::Global;
 
 /// Reads a text.
 pub(crate) fn reads_program(alloc: Global, text: &'static str) -> Option<Came> {
-    twice(
-        (),
-        |_| answered(
-            &read_program(InstructionSet::Core, alloc, text.as_bytes()),
-            &(),
-        ),
-    )
+    twice((), |left| {
+        match read_program(InstructionSet::Core, alloc, text.as_bytes()) {
+            Ok(program) => Some(look_of(&program, left)),
+            Err(fault) => refused(matches!(fault.cause, Cause::Memory)),
+        }
+    })
+}
+
+/// Whether a listing was refused memory.
+fn is_memory(fault: &ListFault) -> bool {
+    match fault {
+        ListFault::Memory => true,
+        ListFault::Read(fault) => matches!(fault.cause, Cause::Memory),
+        _ => false,
+    }
 }
 
 /// Reads the listing of a text's packets.
 pub(crate) fn reads_listing(alloc: Global, text: &str) -> Option<Came> {
-    twice(
-        listing_of(alloc, &packets_in(alloc, text)?)?,
-        |listing| answered(
-            &read_listing(InstructionSet::Core, alloc, listing.as_bytes()),
-            &(),
-        ),
-    )
+    let listing = listing_of(alloc, &packets_in(alloc, text)?)?;
+    twice((), |_| {
+        match read_listing(InstructionSet::Core, alloc, listing.as_bytes()) {
+            Ok(packets) => Some(look_at(&packets)),
+            Err(fault) => refused(is_memory(&fault)),
+        }
+    })
 }
 
 /// Lists a text's packets.
@@ -42,7 +50,8 @@ pub(crate) fn lists(alloc: Global, text: &str) -> Option<Came> {
         if !packets.closed() {
             return None;
         }
-        answered(&list(alloc, packets), &())
+        let listing = list(alloc, packets).ok()?;
+        Some(look_of(&listing, packets))
     })
 }
 
@@ -69,16 +78,17 @@ pub(crate) fn plans(alloc: Global, text: &str) -> Option<Came> {
 
 /// Copies a plan.
 pub(crate) fn copies(alloc: Global, text: &str) -> Option<Came> {
-    twice(
-        plan_of(alloc, text)?,
-        |plan| answered(&plan.copy(alloc), &()),
-    )
+    twice(plan_of(alloc, text)?, |plan| {
+        let copy = plan.copy(alloc).ok()?;
+        Some(look_at(&copy))
+    })
 }
 
 /// Holds the packets of a text against its program.
 pub(crate) fn checks(alloc: Global, text: &'static str) -> Option<Came> {
     twice(packets_in(alloc, text)?, |packets| {
         let program = program_of(alloc, text)?;
-        answered(&check(alloc, program, packets), &())
+        let checked = check(alloc, program, packets).ok()?;
+        Some(look_of(&(checked.text.as_slice(), checked.same), packets))
     })
 }

@@ -1,47 +1,50 @@
 //! Calls that run blocks and programs.
 
-ghost use Rattle.std.specs.Prelude.{◌≡◌, ◌++◌, None, Some, Contains, IfOk, OnErr};
-ghost use Rattle.c62_refusals.specs.Digest.{digest_of};
-ghost use Rattle.c62_refusals.specs.State.{of_contents};
-ghost use Rattle.c62_refusals.specs.declared.answer.TheConstants.{FAULT as OTHER_FAULT};
-
-use crate::answer::{FAULT, answered};
+use crate::answer::FAULT;
 use crate::given::{block_of, packed, packets_in, program_of, whole_board};
 use crate::opening::opening;
-use crate::seen::{Seen, look_at};
+use crate::seen::{look_at, look_of};
 use crate::twice::{Came, twice};
 use c62_pipe::{Pipe, run_chain};
 use c62_serial::{State, run_block, run_program};
 use std::alloc::{AllocError, Global};
+use std::fmt::Debug;
 
 /// How many blocks a chain has at most.
 const LIMIT: u32 = 6;
 
 /// Makes a state.
 pub(crate) fn begins(alloc: Global) -> Option<Came> {
-    twice((), |_| answered(&State::new(alloc), &()))
+    twice((), |_| {
+        let state = State::new(alloc).ok()?;
+        Some(look_at(&state))
+    })
 }
 
 /// Makes room for faulted lines.
 pub(crate) fn makes_room(alloc: Global) -> Option<Came> {
-    twice(opening(alloc)?, |state| answered(&state.room(100), state))
+    twice(opening(alloc)?, |state| {
+        state.room(100).ok()?;
+        Some(look_at(state))
+    })
 }
 
 /// Runs a block.
 pub(crate) fn runs_block(alloc: Global, text: &str) -> Option<Came> {
-    twice(
-        (block_of(alloc, text)?, opening(alloc)?),
-        |given| answered(&run_block(&given.0, &mut given.1), &given.1),
-    )
+    let block = block_of(alloc, text)?;
+    twice(opening(alloc)?, |state| {
+        let exit = run_block(&block, state).ok()?;
+        Some(look_of(&exit, state))
+    })
 }
 
 /// Runs packets.
 pub(crate) fn runs_packets(alloc: Global, text: &str) -> Option<Came> {
     let block = packed(alloc, &whole_board(alloc, text)?)?;
-    twice(
-        (block, opening(alloc)?),
-        |given| answered(&Pipe::run(&given.0, &mut given.1), &given.1),
-    )
+    twice(opening(alloc)?, |state| {
+        let ran = Pipe::run(&block, state).ok()?;
+        Some(look_of(&ran, state))
+    })
 }
 
 /// The looks of the states at the starts of a program's blocks, in the order of its chain.
@@ -57,44 +60,37 @@ fn starts_of(alloc: Global, text: &str) -> Option<Vec<u64>> {
 }
 
 /// What a chain answered, and the state that it left. A refusal leaves the state at the start of a block.
-fn chained<T: Seen + Drop>(
+fn chained<T: Debug + Drop>(
     answer: Result<T, AllocError>,
     state: &State,
     starts: &[u64],
-) -> Option<u64>
-    ensures value { IfOk answer (λ value. result ≡ Some (digest_of (T.shown value ++ of_contents state.now))) }
-    ensures start { OnErr answer (Contains starts.now (digest_of (of_contents state.now)) → result ≡ None) }
-    ensures within { OnErr answer ((Contains starts.now (digest_of (of_contents state.now)) → ⊥) → result ≡ Some OTHER_FAULT) }
-{
+) -> Option<u64> {
     if answer.is_err() && !starts.contains(&look_at(state)) {
         return Some(FAULT);
     }
-    answered(&answer, state)
+    Some(look_of(&answer.ok()?, state))
 }
 
 /// Runs a program.
 pub(crate) fn runs_program(alloc: Global, text: &str) -> Option<Came> {
-    twice(
-        (program_of(alloc, text)?, starts_of(alloc, text)?),
-        |given| {
-            let mut state = opening(alloc)?;
-            let answer = run_program(&given.0, &mut state, LIMIT);
-            chained(answer, &state, &given.1)
-        },
-    )
+    let program = program_of(alloc, text)?;
+    let starts = starts_of(alloc, text)?;
+    twice((), |_| {
+        let mut state = opening(alloc)?;
+        let answer = run_program(&program, &mut state, LIMIT);
+        chained(answer, &state, &starts)
+    })
 }
 
 /// Runs the packets of a program, which go through its states.
 pub(crate) fn runs_chain(alloc: Global, text: &str) -> Option<Came> {
-    twice(
-        (packets_in(alloc, text)?, starts_of(alloc, text)?),
-        |given| {
-            let mut state = opening(alloc)?;
-            if !given.0.closed() {
-                return None;
-            }
-            let answer = run_chain(&given.0, &mut state, LIMIT);
-            chained(answer, &state, &given.1)
-        },
-    )
+    let starts = starts_of(alloc, text)?;
+    twice(packets_in(alloc, text)?, |packets| {
+        let mut state = opening(alloc)?;
+        if !packets.closed() {
+            return None;
+        }
+        let answer = run_chain(packets, &mut state, LIMIT);
+        chained(answer, &state, &starts)
+    })
 }

@@ -3,12 +3,12 @@
 ghost use Rattle.std.specs.Prelude.{◌≡◌, None};
 ghost use Rattle.c62_refusals.specs.Twice.{if_published};
 
-use crate::answer::{answered, taken};
+use crate::answer::{refused, taken};
 use crate::given::begun_board;
 use crate::placing::{proposed, side_of};
-use crate::seen::look_at;
+use crate::seen::{look_at, look_of};
 use crate::twice::{Came, twice, twice_on};
-use c62_board::{Board, Who};
+use c62_board::{Board, CommitFault, Who};
 use c62_insn::Side;
 use c62_view::{Desk, DeskFault, desk_of};
 use std::alloc::Global;
@@ -22,7 +22,7 @@ fn open_desk<R: Wait>(rt: &R, alloc: Global, board: &mut Option<Board>) -> Optio
         Ok((desk, _, _)) => Some(look_at(&desk.close(rt))),
         Err((back, fault)) => {
             *board = Some(back);
-            answered(&Result::<(), DeskFault>::Err(fault), &())
+            refused(matches!(fault, DeskFault::Memory))
         }
     }
 }
@@ -56,7 +56,7 @@ fn on_desk<R: Wait, F: Fn(&mut Desk) -> Option<u64>>(
 {
     let (mut desk, mut viewer, _other) = desk_of(rt, alloc, board).ok()?;
     let planned = (viewer.plan(Side::A), viewer.plan(Side::B));
-    let came = twice_on(&mut desk, &|desk| look_at(desk), &call);
+    let came = twice_on(&mut desk, &|desk| look_at(desk.board()), &call);
     let plans = (viewer.plan(Side::A), viewer.plan(Side::B));
     desk.close(rt);
     Some(if_published(came, plans != planned))
@@ -66,7 +66,7 @@ fn on_desk<R: Wait, F: Fn(&mut Desk) -> Option<u64>>(
 pub(crate) fn steps<R: Wait>(rt: &R, alloc: Global, text: &str) -> Option<Came> {
     on_desk(rt, alloc, begun_board(alloc, text)?, |desk| {
         let turn = desk.step(rt, side_of(desk.board())).0;
-        answered(&taken(turn), desk)
+        Some(look_of(&taken(turn)?, desk.board()))
     })
 }
 
@@ -75,8 +75,8 @@ pub(crate) fn commits<R: Wait>(rt: &R, alloc: Global, text: &str) -> Option<Came
     on_desk(rt, alloc, begun_board(alloc, text)?, |desk| {
         let proposal = proposed(desk.board())?;
         match desk.commit(rt, &proposal, Who::Tail) {
-            Ok((spot, _)) => Some(look_at(&(spot, desk.board()))),
-            Err(fault) => answered(&Result::<(), c62_board::CommitFault>::Err(fault), &()),
+            Ok((spot, _)) => Some(look_of(&spot, desk.board())),
+            Err(fault) => refused(matches!(fault, CommitFault::Memory)),
         }
     })
 }

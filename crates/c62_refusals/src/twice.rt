@@ -1,8 +1,6 @@
 //! A call that is made again where memory was refused.
 
-ghost use Rattle.std.specs.Prelude.{◌≡◌, IfSome};
 ghost use Rattle.std.specs.Fn.{FnReturnsAt};
-ghost use Rattle.c62_refusals.specs.Digest.{digest_of};
 ghost use Rattle.c62_refusals.specs.Twice.{FnReturnsAtMut, CameOf};
 
 use crate::seen::{Seen, look_at};
@@ -72,7 +70,6 @@ pub(crate) fn twice<T: Seen + Drop, F: Fn(&mut T) -> Option<u64>>(
     call: F,
 ) -> Option<Came>
     requires { F.IsAlwaysCallable call }
-    ensures { IfSome result (λ came. (left : T) × CameOf (λ seen look. look ≡ digest_of (T.shown seen)) (FnReturnsAtMut F.Fn call) value left came) }
 {
     Some(twice_on(&mut value, &|seen| look_at(seen), &call))
 }

@@ -2,7 +2,7 @@
 
 use crate::given::{begun_board, plan_of};
 use crate::placing::side_of;
-use crate::seen::look_at;
+use crate::seen::{look_at, look_of};
 use crate::twice::{Came, twice, twice_on};
 use c62_board::Turn;
 use c62_insn::Side;
@@ -57,7 +57,7 @@ fn work_of<R: Wait>(
     if told == (made, Turn::Memory) {
         return None;
     }
-    Some(look_at(&((u64::from(made), told.1), look_behind(desk))))
+    Some(look_of(&(made, told.1, look_behind(desk)), &()))
 }
 
 /// Has the worker of a side take so many turns at a desk.
@@ -119,6 +119,6 @@ pub(crate) fn schedules<R: Threads + Wait + Sync>(
         };
         let board = schedule(rt, alloc, given, options, &seats).ok()?;
         let are_taken = seats.are_taken() || options.turns == 0;
-        Some(look_at(&((board.complete(), board.plan().same(plan)), are_taken)))
+        Some(look_of(&(board.complete(), board.plan().same(plan), are_taken), &()))
     })
 }
