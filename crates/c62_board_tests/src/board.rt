@@ -1,371 +1,275 @@
-//! Worked blocks: steps, withdrawals, replays, proposals and refusals.
+//! Worked blocks: steps of both sides, what finishes them, withdrawals, replays and proposals.
 
 use crate::expect::{equal, equal_in};
+use crate::made::{
+    D1, D2, L1, M1, ONE_PATH, SIX, SIX_IN_ORDER, SUM, board_of, has_entries, longest, placed,
+    plan_of, side_of, turn_text,
+};
 use c62_board::{Board, CommitFault, PlaceFault, Proposal, ReplayFault, Turn, WithdrawFault};
-use c62_depend::Plan;
-use c62_insn::{Letter, Side, Unit};
-use c62_op::InstructionSet;
-use c62_read::read_program;
+use c62_insn::{Side, Unit};
 use c62_sheet::{Entry, Spot, Who};
-use smallvec::SmallVec;
-use std::alloc::{AllocError, Global};
+use c62_work::{finish, turns};
+use std::alloc::Global;
 use std::process::Abort;
-use std::test::Fail;
-
-const L1: Unit = Unit {
-    letter: Letter::L,
-    side: Side::A,
-};
-
-const M1: Unit = Unit {
-    letter: Letter::M,
-    side: Side::A,
-};
-
-const D1: Unit = Unit {
-    letter: Letter::D,
-    side: Side::A,
-};
-
-const L2: Unit = Unit {
-    letter: Letter::L,
-    side: Side::B,
-};
-
-const S2: Unit = Unit {
-    letter: Letter::S,
-    side: Side::B,
-};
-
-const D2: Unit = Unit {
-    letter: Letter::D,
-    side: Side::B,
-};
-
-const SIX: &str =
-    "LDW *B4,B5\nADD B2,A2,B3\nADD A1,B1,A3\nADD A3,A3,A4\nMPY A5,B1,A2\nMPY A2,A2,A6";
 
 /// A block whose ejection withdraws four instructions.
 const TEN: &str =
     "LDW *B4,B5\nLDW *B4,B6\nLDW *B4,B7\nADD B2,A2,B3\nADD A1,B1,A3\nADD A3,A3,A4\nADD A3,A3,A7\nADD A3,A3,A8\nMPY A5,B1,A2\nMPY A2,A2,A6";
 
-const ONE_PATH: &str = "LDW *A4,A5\nLDW *B4,A6";
-
-/// The entries of the sides' steps on the block of six with one ejection, and those of one that withdraws.
-const JOURNAL: [Entry; 10] = [
-    Entry::Place(2, Spot { cycle: 0, unit: L1 }, Who::A),
-    Entry::Place(0, Spot { cycle: 0, unit: D2 }, Who::B),
-    Entry::Place(3, Spot { cycle: 1, unit: L1 }, Who::A),
-    Entry::Place(1, Spot { cycle: 0, unit: L2 }, Who::B),
-    Entry::Withdraw(3, Who::A),
-    Entry::Withdraw(2, Who::A),
-    Entry::Place(4, Spot { cycle: 0, unit: M1 }, Who::A),
-    Entry::Place(2, Spot { cycle: 1, unit: L1 }, Who::A),
-    Entry::Place(5, Spot { cycle: 2, unit: M1 }, Who::A),
-    Entry::Place(3, Spot { cycle: 2, unit: L1 }, Who::A),
-];
-
-/// The turns of A and B alternately on the block of six with one ejection.
-const TURNS: [Turn; 12] = [
-    Turn::Placed(2, Spot { cycle: 0, unit: L1 }),
-    Turn::Placed(0, Spot { cycle: 0, unit: D2 }),
-    Turn::Placed(3, Spot { cycle: 1, unit: L1 }),
-    Turn::Placed(1, Spot { cycle: 0, unit: L2 }),
-    Turn::Ejected(2, 4, Spot { cycle: 0, unit: M1 }),
-    Turn::Idle,
-    Turn::Placed(2, Spot { cycle: 1, unit: L1 }),
-    Turn::Idle,
-    Turn::Placed(5, Spot { cycle: 2, unit: M1 }),
-    Turn::Idle,
-    Turn::Placed(3, Spot { cycle: 2, unit: L1 }),
-    Turn::Done,
-];
-
 /// A block in which two ejections pay.
 const SEVEN: &str =
     "LDW *A1,A1\nMPY A4,B1,A5\nMVK 8,B1\nLDW *A4,A4\nMVK 7,B1\nMVK 9,B4\nSUB A4,A2,A2";
 
-/// The turns of A and B alternately on it, with two ejections.
-const TWO_EJECTIONS: [Turn; 10] = [
-    Turn::Placed(0, Spot { cycle: 0, unit: D1 }),
-    Turn::Placed(5, Spot { cycle: 0, unit: S2 }),
-    Turn::Placed(1, Spot { cycle: 0, unit: M1 }),
-    Turn::Ejected(5, 2, Spot { cycle: 0, unit: S2 }),
-    Turn::Ejected(0, 3, Spot { cycle: 0, unit: D1 }),
-    Turn::Placed(4, Spot { cycle: 1, unit: S2 }),
-    Turn::Placed(0, Spot { cycle: 1, unit: D1 }),
-    Turn::Placed(5, Spot { cycle: 2, unit: S2 }),
-    Turn::Placed(6, Spot { cycle: 5, unit: L1 }),
-    Turn::Done,
+/// A block in which the one that an ejection would withdraw is needed by the one that it would place.
+const NEEDED: &str = "ADD A2,B1,A3\nMPY A5,B2,A2";
+
+/// A block and its ejections; how many turns there are until all is placed, A's first; the turns, and the entries that come of them;
+/// the ejections that are left then, and the length.
+const WHOLE: [(&str, u16, usize, &str, &str, (u16, u16)); 5] = [
+    (
+        SIX,
+        1,
+        12,
+        "+2@0.L1 +0@0.D2 +3@1.L1 +1@0.L2 -2+4@0.M1 Idle +2@1.L1 Idle +5@2.M1 Idle +3@2.L1 Done ",
+        "+2@0.L1A +0@0.D2B +3@1.L1A +1@0.L2B -3A -2A +4@0.M1A +2@1.L1A +5@2.M1A +3@2.L1A ",
+        (0, 5),
+    ),
+    (
+        SIX,
+        0,
+        8,
+        "+2@0.L1 +0@0.D2 +3@1.L1 +1@0.L2 +4@1.M1 Idle +5@3.M1 Done ",
+        "+2@0.L1A +0@0.D2B +3@1.L1A +1@0.L2B +4@1.M1A +5@3.M1A ",
+        (0, 5),
+    ),
+    (
+        SEVEN,
+        2,
+        10,
+        "+0@0.D1 +5@0.S2 +1@0.M1 -5+2@0.S2 -0+3@0.D1 +4@1.S2 +0@1.D1 +5@2.S2 +6@5.L1 Done ",
+        "+0@0.D1A +5@0.S2B +1@0.M1A -5B +2@0.S2B -0A +3@0.D1A +4@1.S2B +0@1.D1A +5@2.S2B +6@5.L1A ",
+        (0, 6),
+    ),
+    (
+        SEVEN,
+        1,
+        9,
+        "+0@0.D1 +5@0.S2 +1@0.M1 -5+2@0.S2 +3@1.D1 +4@1.S2 +6@6.L1 +5@2.S2 Done ",
+        "+0@0.D1A +5@0.S2B +1@0.M1A -5B +2@0.S2B +3@1.D1A +4@1.S2B +6@6.L1A +5@2.S2B ",
+        (0, 7),
+    ),
+    (
+        NEEDED,
+        1,
+        4,
+        "+0@0.L1 Idle +1@1.M1 Done ",
+        "+0@0.L1A +1@1.M1A ",
+        (1, 3),
+    ),
 ];
 
-/// The turns after the first ejection where that is the only one.
-const ONE_EJECTION: [Turn; 5] = [
-    Turn::Placed(3, Spot { cycle: 1, unit: D1 }),
-    Turn::Placed(4, Spot { cycle: 1, unit: S2 }),
-    Turn::Placed(6, Spot { cycle: 6, unit: L1 }),
-    Turn::Placed(5, Spot { cycle: 2, unit: S2 }),
-    Turn::Done,
-];
-
-/// Eight instructions, of which three stand in the early cycle of the last but one after six turns, and the same with a
-/// reader of one of them; and the seventh turn with one ejection. The victim is that of least height, and then of greatest
-/// number.
-const VICTIMS: [(&str, Turn); 3] = [
+/// A block with one ejection, how many turns there are before that, what the turn is then, and its entries. Three may make way in the
+/// last three, of which none has a reader, then the fifth, then the sixth. It is the one of least height, and of greatest number.
+const EJECTED: [(&str, usize, &str, &str); 4] = [
+    (TEN, 8, "-4+8@0.M1 ", "-7A -6A -5A -4A +8@0.M1A "),
     (
         "LDW *B4,B5\nLDW *B6,B7\nADD B2,A2,B3\nADD A1,A1,A8\nADD A3,A3,A9\nADD A4,A4,A10\nSUB A5,A6,A2\nMPY A2,A2,A7",
-        Turn::Ejected(5, 6, Spot { cycle: 0, unit: D1 }),
+        6,
+        "-5+6@0.D1 ",
+        "-5A +6@0.D1A ",
     ),
     (
         "LDW *B4,B5\nLDW *B6,B7\nADD B2,A2,B3\nADD A1,A1,A8\nADD A3,A3,A9\nADD A4,A4,A10\nSUB A5,A6,A2\nMPY A2,A2,A7\nSUB A9,A3,A11",
-        Turn::Ejected(5, 6, Spot { cycle: 0, unit: D1 }),
+        6,
+        "-5+6@0.D1 ",
+        "-5A +6@0.D1A ",
     ),
     (
         "LDW *B4,B5\nLDW *B6,B7\nADD B2,A2,B3\nADD A1,A1,A8\nADD A3,A3,A9\nADD A4,A4,A10\nSUB A5,A6,A2\nMPY A2,A2,A7\nSUB A10,A3,A11",
-        Turn::Ejected(4, 6, Spot { cycle: 0, unit: D1 }),
+        6,
+        "-4+6@0.D1 ",
+        "-4A +6@0.D1A ",
     ),
 ];
 
-/// The plan of the only block of a text.
-fn plan_of(rt: &impl Abort, alloc: Global, text: &str) -> Result<Plan, Fail> {
-    let mut blocks = read_program(InstructionSet::Core, alloc, text.as_bytes())?.into_blocks();
-    equal_in(rt, &text, &blocks.len(), &1);
-    let block = blocks.pop().expect(rt, "a block");
-    match Plan::new(alloc, block) {
-        Ok(plan) => Ok(plan),
-        Err((_, error)) => Err(error.into()),
+/// Takes a side's turn, which is told ahead with its entries, and costs an ejection where it is one.
+fn takes_turn(rt: &impl Abort, board: &mut Board, side: Side) -> Turn {
+    let before = board.journal().len();
+    let budget = board.budget();
+    let (turn, entries) = board.ahead(side).expect(rt, "memory");
+    equal(rt, &board.step(side), &turn);
+    let added = board.journal().get(before..).unwrap_or_default();
+    equal(rt, &added, &entries.as_slice());
+    let spent = u16::from(matches!(turn, Turn::Ejected(_, _, _)));
+    equal(rt, &board.budget(), &budget.saturating_sub(spent));
+    turn
+}
+
+/// Takes so many turns, A's first, which are these.
+fn has_turns(rt: &impl Abort, alloc: Global, board: &mut Board, turns: usize, wanted: &str) {
+    let mut all = String::new(alloc);
+    for k in 0..turns {
+        let turn = takes_turn(rt, board, side_of(k));
+        let text = turn_text(alloc, turn).expect(rt, "memory");
+        all.push_str(&text).expect(rt, "memory");
+    }
+    equal(rt, &all.as_str(), &wanted);
+}
+
+/// Turns one by one, and all at once.
+#[test]
+fn sides_take_turns(rt: HostRuntime) {
+    for (text, budget, many, told, journal, left) in &WHOLE {
+        let mut one = board_of(&rt, rt.alloc(), text, *budget);
+        has_turns(&rt, rt.alloc(), &mut one, *many, told);
+        let mut other = board_of(&rt, rt.alloc(), text, *budget);
+        equal(&rt, &turns(&mut other), &Turn::Done);
+        for board in [&one, &other] {
+            assert!(rt; board.complete());
+            has_entries(&rt, rt.alloc(), board.journal(), journal);
+            equal_in(&rt, text, &(board.budget(), board.length()), left);
+        }
     }
 }
 
-/// An empty board of the only block of a text.
-fn board_of(rt: &impl Abort, alloc: Global, text: &str, budget: u16) -> Result<Board, Fail> {
-    match Board::new(alloc, plan_of(rt, alloc, text)?, budget) {
-        Ok(board) => Ok(board),
-        Err((_, error)) => Err(error.into()),
-    }
-}
-
-fn side_of(turn: usize) -> Side {
-    if turn % 2 == 0 { Side::A } else { Side::B }
-}
-
-/// The board of the block of six after the first turns.
-fn after(rt: &impl Abort, alloc: Global, turns: usize) -> Result<Board, Fail> {
-    let mut board = board_of(rt, alloc, SIX, 1)?;
+/// The board of a block with one ejection after so many turns.
+fn after(rt: &impl Abort, alloc: Global, text: &str, turns: usize) -> Board {
+    let mut board = board_of(rt, alloc, text, 1);
     for k in 0..turns {
         board.step(side_of(k));
     }
-    Ok(board)
+    board
 }
 
-fn place(rt: &impl Abort, board: &mut Board, i: u16) -> Result<Spot, PlaceFault> {
-    assert!(rt; i < board.plan().len());
-    board.place(i, Who::Tail)
+#[test]
+fn the_least_urgent_makes_way(rt: HostRuntime) {
+    for (text, turns, turn, entries) in &EJECTED {
+        let mut board = after(&rt, rt.alloc(), text, *turns);
+        let before = board.journal().len();
+        has_turns(&rt, rt.alloc(), &mut board, 1, turn);
+        let added = board.journal().get(before..).unwrap_or_default();
+        has_entries(&rt, rt.alloc(), added, entries);
+    }
 }
 
-fn withdraw(rt: &impl Abort, board: &mut Board, i: u16) -> Result<u16, WithdrawFault> {
-    assert!(rt; i < board.plan().len());
-    board.withdraw(i, Who::A)
+/// What has its least spot in cycle 1, and what of the cycle before would make way for it.
+#[test]
+fn the_victim(rt: HostRuntime) {
+    for (text, turns, i, victim) in [(SIX, 4, 4, Some(2)), (NEEDED, 1, 1, None)] {
+        let board = after(&rt, rt.alloc(), text, turns);
+        assert!(rt; i < board.plan().len());
+        assert!(rt; board.ready(i));
+        let Some(least) = board.least(i) else {
+            panic!(rt; "no room");
+        };
+        equal(&rt, &least, &Spot { cycle: 1, unit: M1 });
+        equal_in(&rt, &text, &board.blocks_least(i), &victim);
+    }
 }
 
-/// Blocks placed in the order of the text: the cycle of each instruction, and the length.
-const IN_ORDER: [(&str, &[u16], u16); 8] = [
-    ("MVK 3,A1\nADD A5,A1,A2\nLDW *A4,A5", &[0, 1, 0], 5),
-    ("LDW *A4,A5\nMVK 1,A5", &[0, 5], 6),
-    ("MPY A1,A1,A4\nADD A1,A1,A5\nSUB A1,A2,A3", &[0, 0, 1], 2),
-    ("ADD A1,B1,A2\nSUB A3,B3,A4", &[0, 1], 2),
-    (ONE_PATH, &[0, 1], 6),
-    ("LDW *A4,A5\nLDW *B4,B6", &[0, 0], 5),
-    (
-        "L1:\nMVK 0,A0\nMVK 1,A1\nMVK 2,A2\nMVK 3,A3\nMVK 4,A4\nMVK 5,A5\nMVK 6,A6\nMVK 7,A7\nB L1",
-        &[0, 1, 2, 3, 4, 5, 6, 7, 2],
-        8,
-    ),
-    ("L1: MPY A1,A2,A3\nB L1", &[0, 0], 6),
+#[test]
+fn spots_withdrawn_and_cleared(rt: HostRuntime) {
+    let mut board = after(&rt, rt.alloc(), SIX, 2);
+    assert!(rt; board.plan().len() == 6);
+    equal(&rt, &board.spot_of(2), &Some(Spot { cycle: 0, unit: L1 }));
+    assert!(rt; board.check(4, Spot { cycle: 0, unit: M1 }).is_err());
+    assert!(rt; board.check(3, Spot { cycle: 1, unit: L1 }).is_ok());
+    board.step(Side::A);
+    board.step(Side::B);
+    for (i, wanted, journal) in [
+        (
+            4,
+            Err(WithdrawFault::NotPlaced),
+            "+2@0.L1A +0@0.D2B +3@1.L1A +1@0.L2B ",
+        ),
+        (2, Ok(2), "+2@0.L1A +0@0.D2B +3@1.L1A +1@0.L2B -3A -2A "),
+    ] {
+        assert!(rt; i < board.plan().len());
+        equal(&rt, &board.withdraw(i, Who::A), &wanted);
+        has_entries(&rt, rt.alloc(), board.journal(), journal);
+    }
+    equal(&rt, &board.counts().placed_a, &0);
+    board.clear();
+    let left = (board.journal().len(), board.counts().placed_b);
+    equal(&rt, &left, &(0, 0));
+    let spot = Spot { cycle: 0, unit: L1 };
+    equal(&rt, &board.step(Side::A), &Turn::Placed(2, spot));
+}
+
+/// A journal leads to the same board again, and one that withdraws what is needed leads nowhere.
+#[test]
+fn replays(rt: HostRuntime) {
+    let worked = after(&rt, rt.alloc(), SIX, 12);
+    equal(&rt, &worked.journal().len(), &10);
+    let plan = plan_of(&rt, rt.alloc(), SIX);
+    let Ok(board) = Board::replay(rt.alloc(), plan, 3, worked.journal()) else {
+        panic!(rt; "the entries are legal");
+    };
+    assert!(rt; board.complete() && board.journal() == worked.journal());
+    equal(&rt, &board.budget(), &3);
+    let begun = worked.journal().get(..4).unwrap_or_default();
+    let mut entries = Vec::from_slice(rt.alloc(), begun).expect(&rt, "memory");
+    entries
+        .push(Entry::Withdraw(2, Who::A))
+        .expect(&rt, "memory");
+    let plan = plan_of(&rt, rt.alloc(), SIX);
+    let Err((plan, fault)) = Board::replay(rt.alloc(), plan, 3, &entries) else {
+        panic!(rt; "an entry is not legal");
+    };
+    equal(&rt, &fault, &ReplayFault::BadEntry(4));
+    equal(&rt, &plan.len(), &6);
+}
+
+/// Proposals one after the other: a number, its cycle and unit, how many entries were seen and by whom; and why it is refused.
+const PROPOSALS: [((u16, u16, Unit, usize), Who, Option<CommitFault>); 6] = [
+    ((65535, 0, D1, 0), Who::A, Some(CommitFault::NotReady)),
+    ((0, 1, D1, 1), Who::A, Some(CommitFault::Stale(0))),
+    ((1, 0, D2, 7), Who::B, None),
+    ((1, 0, D2, 7), Who::B, Some(CommitFault::NotReady)),
+    ((0, 0, D1, 0), Who::A, Some(CommitFault::Stale(1))),
+    ((0, 1, D1, 1), Who::A, None),
 ];
 
 #[test]
-fn placings_in_order(rt: HostRuntime) -> Result<(), Fail> {
-    for (text, cycles, length) in &IN_ORDER {
-        let mut board = board_of(&rt, rt.alloc(), text, 0)?;
-        let mut i = 0;
-        for cycle in *cycles {
-            let Ok(spot) = place(&rt, &mut board, i) else {
-                return Err("an instruction found no room".into());
-            };
-            equal_in(&rt, &text, &spot.cycle, cycle);
-            i = i.wrapping_add(1);
+fn proposals(rt: HostRuntime) {
+    let mut board = board_of(&rt, rt.alloc(), ONE_PATH, 0);
+    for ((number, cycle, unit, seen), who, fault) in PROPOSALS {
+        let spot = Spot { cycle, unit };
+        let proposal = Proposal { number, spot, seen };
+        let answer = board.commit(&proposal, who);
+        match fault {
+            None => equal(&rt, &answer, &Ok(spot)),
+            Some(fault) => equal(&rt, &answer, &Err(fault)),
         }
-        assert!(rt; board.complete());
-        equal_in(&rt, &text, &board.length(), length);
     }
-    Ok(())
+    has_entries(&rt, rt.alloc(), board.journal(), "+1@0.D2B +0@1.D1A ");
+    equal(&rt, &(board.length(), board.budget()), &(6, 0));
+    equal(&rt, &board.pick(Side::A), &None);
+    assert!(rt; 0 < board.plan().len());
+    equal(&rt, &board.place(0, Who::Tail), &Err(PlaceFault::NotReady));
 }
 
+/// Of the longest block all but the first are withdrawn and proposed again, and then all are withdrawn.
 #[test]
-fn turns_of_both_sides(rt: HostRuntime) -> Result<(), Fail> {
-    let mut board = board_of(&rt, rt.alloc(), SIX, 1)?;
-    for (k, want) in TURNS.iter().enumerate() {
-        equal(&rt, &board.step(side_of(k)), want);
-    }
-    assert!(rt; board.journal() == &JOURNAL[..]);
-    equal(&rt, &board.budget(), &0);
-    assert!(rt; board.complete());
-    equal(&rt, &board.length(), &5);
-    board.clear();
-    equal(&rt, &board.journal().len(), &0);
-    equal(&rt, &board.counts().placed_a, &0);
-    equal(&rt, &board.step(Side::A), &TURNS[0]);
-    Ok(())
-}
-
-/// The steps of the sides in turn, from the first of these numbers on, answer this.
-fn takes_turns(rt: &impl Abort, board: &mut Board, from: usize, wanted: &[Turn]) {
-    for k in 0..wanted.len() {
-        assert!(rt; from < 100);
-        equal(rt, &board.step(side_of(from + k)), &wanted[k]);
-    }
-}
-
-#[test]
-fn turns_are_told_ahead(rt: HostRuntime) -> Result<(), Fail> {
-    let mut board = board_of(&rt, rt.alloc(), SIX, 1)?;
-    for (k, want) in TURNS.iter().enumerate() {
-        let side = side_of(k);
-        let before = board.journal().len();
-        let (turn, entries) = board.ahead(side)?;
-        equal(
-            &rt,
-            &(turn, board.journal().len(), board.budget()),
-            &(*want, before, u16::from(k < 5)),
-        );
-        equal(&rt, &board.step(side), want);
-        let added = board.journal().get(before..).unwrap_or_default();
-        equal(&rt, &added, &entries.as_slice());
-    }
-    Ok(())
-}
-
-#[test]
-fn a_long_ejection_is_told_ahead(rt: HostRuntime) -> Result<(), Fail> {
-    let mut board = board_of(&rt, rt.alloc(), TEN, 1)?;
-    for k in 0..8 {
-        board.step(side_of(k));
-    }
-    let before = board.journal().len();
-    let (turn, entries) = board.ahead(Side::A)?;
-    equal(
-        &rt,
-        &(turn, before),
-        &(Turn::Ejected(4, 8, Spot { cycle: 0, unit: M1 }), 8),
-    );
-    let withdrawn = [7, 6, 5, 4].map(|i| Entry::Withdraw(i, Who::A));
-    equal(&rt, &entries.len(), &5);
-    equal(&rt, &entries.as_slice().get(..4), &Some(&withdrawn[..]));
-    equal(&rt, &board.step(Side::A), &turn);
-    equal(
-        &rt,
-        &board.journal().get(before..),
-        &Some(entries.as_slice()),
-    );
-    Ok(())
-}
-
-#[test]
-fn two_ejections(rt: HostRuntime) -> Result<(), Fail> {
-    let mut board = board_of(&rt, rt.alloc(), SEVEN, 2)?;
-    takes_turns(&rt, &mut board, 0, &TWO_EJECTIONS);
-    equal(&rt, &board.budget(), &0);
-    equal(&rt, &board.length(), &6);
-    Ok(())
-}
-
-#[test]
-fn one_ejection_of_two(rt: HostRuntime) -> Result<(), Fail> {
-    let mut board = board_of(&rt, rt.alloc(), SEVEN, 1)?;
-    takes_turns(&rt, &mut board, 0, &TWO_EJECTIONS[..4]);
-    takes_turns(&rt, &mut board, 4, &ONE_EJECTION);
-    equal(&rt, &board.budget(), &0);
-    equal(&rt, &board.length(), &7);
-    Ok(())
-}
-
-#[test]
-fn the_least_urgent_makes_way(rt: HostRuntime) -> Result<(), Fail> {
-    for (text, want) in VICTIMS.iter() {
-        let mut board = board_of(&rt, rt.alloc(), text, 1)?;
-        for turn in 0..6 {
-            let _ = board.step(side_of(turn));
-        }
-        equal_in(&rt, &text, &board.step(Side::A), want);
-    }
-    Ok(())
-}
-
-#[test]
-fn the_victim(rt: HostRuntime) -> Result<(), Fail> {
-    let board = after(&rt, rt.alloc(), 4)?;
-    assert!(rt; board.plan().len() == 6);
-    assert!(rt; board.ready(4));
-    let Some(least) = board.least(4) else {
-        return Err("no room".into());
-    };
-    equal(&rt, &least, &Spot { cycle: 1, unit: M1 });
-    equal(&rt, &board.blocks_least(4), &Some(2));
-    let mut board = board_of(&rt, rt.alloc(), "ADD A2,B1,A3\nMPY A5,B2,A2", 1)?;
-    equal(
-        &rt,
-        &board.step(Side::A),
-        &Turn::Placed(0, Spot { cycle: 0, unit: L1 }),
-    );
-    assert!(rt; board.plan().len() == 2);
-    assert!(rt; board.ready(1));
-    let Some(_) = board.least(1) else {
-        return Err("no room".into());
-    };
-    equal(&rt, &board.blocks_least(1), &None);
-    Ok(())
-}
-
-#[test]
-fn withdrawals(rt: HostRuntime) -> Result<(), Fail> {
-    let mut board = after(&rt, rt.alloc(), 4)?;
-    equal(
-        &rt,
-        &withdraw(&rt, &mut board, 4),
-        &Err(WithdrawFault::NotPlaced),
-    );
-    equal(&rt, &board.journal().len(), &4);
-    equal(&rt, &withdraw(&rt, &mut board, 2), &Ok(2));
-    assert!(rt; board.journal() == &JOURNAL[..6]);
-    equal(&rt, &board.counts().placed_a, &0);
-    Ok(())
-}
-
-#[test]
-fn a_chain_of_256(rt: HostRuntime) -> Result<(), Fail> {
-    let mut text = String::new(rt.alloc());
-    for _ in 0..256 {
-        text.push_str("ADD A1,A2,A1\n")?;
-    }
-    let mut board = board_of(&rt, rt.alloc(), &text, 0)?;
-    for i in 0..256 {
-        equal(
-            &rt,
-            &place(&rt, &mut board, i),
-            &Ok(Spot { cycle: i, unit: L1 }),
-        );
-    }
-    assert!(rt; board.complete());
-    equal(&rt, &board.length(), &256);
-    equal(&rt, &withdraw(&rt, &mut board, 1), &Ok(255));
+fn a_chain_of_256(rt: HostRuntime) {
+    let text = longest(&rt, rt.alloc());
+    let mut board = placed(&rt, rt.alloc(), &text);
+    assert!(rt; 1 < board.plan().len());
+    equal(&rt, &board.withdraw(1, Who::A), &Ok(255));
     equal(&rt, &board.journal().len(), &511);
-    equal(&rt, &board.journal()[256], &Entry::Withdraw(255, Who::A));
+    equal(
+        &rt,
+        &board.journal().get(256),
+        &Some(&Entry::Withdraw(255, Who::A)),
+    );
     equal(&rt, &board.counts().placed_a, &1);
-    for i in 1..256 {
-        let spot = Spot { cycle: i, unit: L1 };
+    for number in 1..256 {
+        let spot = Spot {
+            cycle: number,
+            unit: L1,
+        };
         let proposal = Proposal {
-            number: i,
+            number,
             spot,
             seen: 0,
         };
@@ -373,306 +277,47 @@ fn a_chain_of_256(rt: HostRuntime) -> Result<(), Fail> {
     }
     assert!(rt; board.complete());
     equal(&rt, &board.length(), &256);
-    equal(&rt, &withdraw(&rt, &mut board, 0), &Ok(256));
-    equal(&rt, &board.journal().len(), &1022);
-    equal(&rt, &board.counts().placed_a, &0);
-    let plan = plan_of(&rt, rt.alloc(), &text)?;
+    assert!(rt; 0 < board.plan().len());
+    equal(&rt, &board.withdraw(0, Who::A), &Ok(256));
+    equal(
+        &rt,
+        &(board.journal().len(), board.counts().placed_a),
+        &(1022, 0),
+    );
+    let plan = plan_of(&rt, rt.alloc(), &text);
     let Ok(again) = Board::replay(rt.alloc(), plan, 0, board.journal()) else {
-        return Err("the entries are legal".into());
+        panic!(rt; "the entries are legal");
     };
     equal(&rt, &again.journal().len(), &1022);
-    Ok(())
 }
 
+/// The block of which a plan is, the block of a board and the turns that it has, the entries once it is finished, and the length.
+const FINISHED: [(&str, &str, usize, &str, u16); 3] = [
+    (SIX, SIX, 0, SIX_IN_ORDER, 5),
+    (SIX, SUM, 0, SIX_IN_ORDER, 5),
+    (SUM, SUM, 3, "+0@0.S1A +1@1.S1A +2@2.L1Tail ", 3),
+];
+
+/// What a board lacks of a plan is placed in its order, from nothing where the board is of another one.
 #[test]
-fn replays(rt: HostRuntime) -> Result<(), Fail> {
-    let plan = plan_of(&rt, rt.alloc(), SIX)?;
-    let Ok(board) = Board::replay(rt.alloc(), plan, 3, &JOURNAL) else {
-        return Err("the entries are legal".into());
-    };
+fn finishing(rt: HostRuntime) {
+    for (of, text, turns, journal, length) in &FINISHED {
+        let plan = plan_of(&rt, rt.alloc(), of);
+        let board = after(&rt, rt.alloc(), text, *turns);
+        let budget = board.budget();
+        let board = finish(rt.alloc(), board, &plan).expect(&rt, text);
+        has_entries(&rt, rt.alloc(), board.journal(), journal);
+        equal_in(
+            &rt,
+            text,
+            &(board.budget(), board.length()),
+            &(budget, *length),
+        );
+    }
+    let text = longest(&rt, rt.alloc());
+    let plan = plan_of(&rt, rt.alloc(), &text);
+    let board = board_of(&rt, rt.alloc(), &text, 0);
+    let board = finish(rt.alloc(), board, &plan).expect(&rt, "memory");
     assert!(rt; board.complete());
-    assert!(rt; board.journal() == &JOURNAL[..]);
-    equal(&rt, &board.budget(), &3);
-    let mut exchanged = JOURNAL;
-    exchanged[4] = JOURNAL[5];
-    exchanged[5] = JOURNAL[4];
-    let plan = plan_of(&rt, rt.alloc(), SIX)?;
-    let Err((plan, fault)) = Board::replay(rt.alloc(), plan, 3, &exchanged) else {
-        return Err("an entry is not legal".into());
-    };
-    equal(&rt, &fault, &ReplayFault::BadEntry(4));
-    equal(&rt, &plan.len(), &6);
-    Ok(())
-}
-
-#[test]
-fn proposals(rt: HostRuntime) -> Result<(), Fail> {
-    let mut board = board_of(&rt, rt.alloc(), ONE_PATH, 0)?;
-    let first = Proposal {
-        number: 0,
-        spot: Spot { cycle: 0, unit: D1 },
-        seen: 0,
-    };
-    let second = Proposal {
-        number: 1,
-        spot: Spot { cycle: 0, unit: D2 },
-        seen: 7,
-    };
-    let later = Proposal {
-        number: 0,
-        spot: Spot { cycle: 1, unit: D1 },
-        seen: 1,
-    };
-    let none = Proposal {
-        number: 65535,
-        spot: Spot { cycle: 0, unit: D1 },
-        seen: 0,
-    };
-    equal(
-        &rt,
-        &board.commit(&none, Who::A),
-        &Err(CommitFault::NotReady),
-    );
-    equal(
-        &rt,
-        &board.commit(&later, Who::A),
-        &Err(CommitFault::Stale(0)),
-    );
-    equal(
-        &rt,
-        &board.commit(&second, Who::B),
-        &Ok(Spot { cycle: 0, unit: D2 }),
-    );
-    equal(
-        &rt,
-        &board.commit(&second, Who::B),
-        &Err(CommitFault::NotReady),
-    );
-    equal(
-        &rt,
-        &board.commit(&first, Who::A),
-        &Err(CommitFault::Stale(1)),
-    );
-    equal(&rt, &board.journal().len(), &1);
-    equal(
-        &rt,
-        &board.commit(&later, Who::A),
-        &Ok(Spot { cycle: 1, unit: D1 }),
-    );
-    equal(&rt, &board.length(), &6);
-    equal(&rt, &place(&rt, &mut board, 0), &Err(PlaceFault::NotReady));
-    equal(&rt, &board.pick(Side::A), &None);
-    equal(&rt, &board.budget(), &0);
-    Ok(())
-}
-
-#[test]
-fn a_refused_spot(rt: HostRuntime) -> Result<(), Fail> {
-    let board = after(&rt, rt.alloc(), 2)?;
-    assert!(rt; board.plan().len() == 6);
-    equal(&rt, &board.spot_of(2), &Some(Spot { cycle: 0, unit: L1 }));
-    assert!(rt; board.check(4, Spot { cycle: 0, unit: M1 }).is_err());
-    assert!(rt; board.check(3, Spot { cycle: 1, unit: L1 }).is_ok());
-    Ok(())
-}
-
-/// What is seen of a board of the block of six.
-#[derive(Clone, Copy, PartialEq, Eq, Debug)]
-struct Seen {
-    entries: usize,
-    budget: u16,
-    spots: [Option<Spot>; 6],
-}
-
-fn look_at(rt: &impl Abort, board: &Board) -> Seen {
-    let mut spots = [None; 6];
-    for (i, spot) in spots.iter_mut().enumerate() {
-        assert!(rt; board.plan().len() == 6);
-        *spot = board.spot_of(i as u16);
-    }
-    Seen {
-        entries: board.journal().len(),
-        budget: board.budget(),
-        spots,
-    }
-}
-
-/// The plan of the block of six, where memory is given.
-fn plan_of_six(alloc: Global) -> Option<Plan> {
-    let mut blocks = read_program(InstructionSet::Core, alloc, SIX.as_bytes())
-        .ok()?
-        .into_blocks();
-    Plan::new(alloc, blocks.pop()?).ok()
-}
-
-/// The plan of the block of six, asked for again where memory is refused.
-fn plan_again(rt: &impl Abort, alloc: Global) -> Result<Plan, Fail> {
-    match plan_of_six(alloc) {
-        Some(plan) => Ok(plan),
-        None => plan_of(rt, alloc, SIX),
-    }
-}
-
-/// A step, taken again where memory is refused, which changes nothing.
-fn step_again(rt: &impl Abort, board: &mut Board, side: Side) -> Turn {
-    let before = look_at(rt, board);
-    match board.step(side) {
-        Turn::Memory => {
-            equal(rt, &look_at(rt, board), &before);
-            board.step(side)
-        }
-        turn => turn,
-    }
-}
-
-/// What a side's turn comes to, asked for again where memory is refused.
-fn ahead_again(
-    rt: &impl Abort,
-    board: &Board,
-    side: Side,
-) -> Result<(Turn, SmallVec<Entry, 4>), AllocError> {
-    let before = look_at(rt, board);
-    let answer = match board.ahead(side) {
-        Ok(told) => Ok(told),
-        Err(_) => board.ahead(side),
-    };
-    equal(rt, &look_at(rt, board), &before);
-    answer
-}
-
-/// Room, asked for again where memory is refused.
-fn room_again(rt: &impl Abort, board: &mut Board, entries: usize) -> Result<(), AllocError> {
-    let before = look_at(rt, board);
-    let answer = match board.room(entries) {
-        Ok(()) => Ok(()),
-        Err(_) => board.room(entries),
-    };
-    equal(rt, &look_at(rt, board), &before);
-    answer
-}
-
-/// The same of a withdrawal.
-fn withdraw_again(rt: &impl Abort, board: &mut Board, i: u16) -> Result<u16, WithdrawFault> {
-    let before = look_at(rt, board);
-    match withdraw(rt, board, i) {
-        Err(WithdrawFault::Memory) => {
-            equal(rt, &look_at(rt, board), &before);
-            withdraw(rt, board, i)
-        }
-        answer => answer,
-    }
-}
-
-/// The same of a placing.
-fn place_again(rt: &impl Abort, board: &mut Board, i: u16) -> Result<Spot, PlaceFault> {
-    let before = look_at(rt, board);
-    match place(rt, board, i) {
-        Err(PlaceFault::Memory) => {
-            equal(rt, &look_at(rt, board), &before);
-            place(rt, board, i)
-        }
-        answer => answer,
-    }
-}
-
-/// The same of a proposal.
-fn commit_again(
-    rt: &impl Abort,
-    board: &mut Board,
-    proposal: &Proposal,
-) -> Result<Spot, CommitFault> {
-    let before = look_at(rt, board);
-    match board.commit(proposal, Who::A) {
-        Err(CommitFault::Memory) => {
-            equal(rt, &look_at(rt, board), &before);
-            board.commit(proposal, Who::A)
-        }
-        answer => answer,
-    }
-}
-
-/// The replay of these entries, made again from the plan that comes back where memory is refused.
-fn replay_again(rt: &impl Abort, alloc: Global, entries: &[Entry]) -> Result<Board, Fail> {
-    let plan = match Board::replay(alloc, plan_again(rt, alloc)?, 3, entries) {
-        Ok(board) => return Ok(board),
-        Err((plan, fault)) => {
-            equal(rt, &fault, &ReplayFault::Memory);
-            plan
-        }
-    };
-    equal(rt, &plan.len(), &6);
-    match Board::replay(alloc, plan, 3, entries) {
-        Ok(board) => Ok(board),
-        Err((_, fault)) => Err(fault.into()),
-    }
-}
-
-/// An empty board, made again from the plan that comes back where memory is refused.
-fn board_again(rt: &impl Abort, alloc: Global) -> Result<Board, Fail> {
-    let plan = match Board::new(alloc, plan_again(rt, alloc)?, 1) {
-        Ok(board) => return Ok(board),
-        Err((plan, _)) => plan,
-    };
-    equal(rt, &plan.len(), &6);
-    match Board::new(alloc, plan, 1) {
-        Ok(board) => Ok(board),
-        Err((_, error)) => Err(error.into()),
-    }
-}
-
-// Wherever one allocation is refused, the tests below pass too: what was handed over comes back, the board is as it was, and
-// the call made again does what it does with ample memory.
-
-#[test]
-fn a_refused_growth_of_steps(rt: HostRuntime) -> Result<(), Fail> {
-    let mut board = board_again(&rt, rt.alloc())?;
-    for (k, want) in TURNS.iter().enumerate() {
-        equal(&rt, &ahead_again(&rt, &board, side_of(k))?.0, want);
-        equal(&rt, &step_again(&rt, &mut board, side_of(k)), want);
-    }
-    assert!(rt; board.journal() == &JOURNAL[..]);
-    Ok(())
-}
-
-#[test]
-fn a_refused_growth_of_room(rt: HostRuntime) -> Result<(), Fail> {
-    let mut board = board_again(&rt, rt.alloc())?;
-    room_again(&rt, &mut board, 10)?;
-    for (k, want) in TURNS.iter().enumerate() {
-        equal(&rt, &board.step(side_of(k)), want);
-    }
-    Ok(())
-}
-
-#[test]
-fn a_refused_growth_of_a_withdrawal(rt: HostRuntime) -> Result<(), Fail> {
-    let mut board = replay_again(&rt, rt.alloc(), &JOURNAL[..4])?;
-    equal(&rt, &withdraw_again(&rt, &mut board, 2), &Ok(2));
-    assert!(rt; board.journal() == &JOURNAL[..6]);
-    Ok(())
-}
-
-#[test]
-fn a_refused_growth_of_a_placing(rt: HostRuntime) -> Result<(), Fail> {
-    let mut board = board_again(&rt, rt.alloc())?;
-    let first = Spot { cycle: 0, unit: L1 };
-    equal(&rt, &place_again(&rt, &mut board, 2), &Ok(first));
-    Ok(())
-}
-
-#[test]
-fn a_refused_growth_of_a_proposal(rt: HostRuntime) -> Result<(), Fail> {
-    let mut board = board_again(&rt, rt.alloc())?;
-    let proposal = Proposal {
-        number: 2,
-        spot: Spot { cycle: 0, unit: L1 },
-        seen: 0,
-    };
-    equal(
-        &rt,
-        &commit_again(&rt, &mut board, &proposal),
-        &Ok(proposal.spot),
-    );
-    assert!(rt; board.journal() == &JOURNAL[..1]);
-    Ok(())
+    equal(&rt, &(board.journal().len(), board.length()), &(256, 256));
 }

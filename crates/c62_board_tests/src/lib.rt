@@ -1,4 +1,4 @@
-//! The tests of the board, and of what packs and shows.
+//! The tests of the board, and of what workers make of it.
 
 #![tactic(auto)]
 
@@ -9,13 +9,9 @@ mod expect;
 #[cfg(test)]
 mod faults;
 #[cfg(test)]
+mod made;
+#[cfg(test)]
 mod pack;
-#[cfg(test)]
-mod pages;
-#[cfg(test)]
-mod shortest;
-#[cfg(test)]
-mod show;
 #[cfg(test)]
 mod view;
 #[cfg(test)]

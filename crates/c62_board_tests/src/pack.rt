@@ -1,49 +1,70 @@
-//! Packets of worked boards and spots.
+//! Packets of boards and of spots.
 
 use crate::expect::{equal, equal_in};
-use c62_board::{Board, Spot, Who};
-use c62_depend::Plan;
-use c62_insn::{Letter, Reg, Side, Unit};
-use c62_op::InstructionSet;
+use crate::made::{L1, S1, SUM, longest, placed, plan_of, spot_text};
+use c62_board::{Board, Spot};
+use c62_insn::Unit;
 use c62_pack::{AtFault, packets_at, packets_of};
-use c62_packet::{PacketBlock, Packets};
-use c62_pipe::run_chain;
-use c62_read::{Block, MOST_BLOCKS, MOST_INSTRUCTIONS, read_program};
-use c62_serial::{Chain, End, State, run_program};
+use c62_packet::{PacketBlock, Placed};
 use std::alloc::Global;
 use std::process::Abort;
-use std::test::Fail;
 
-const SUM: &str = "MVK 5,A1\nMVK 7,A2\nADD A1,A2,A3";
-
-const S1: Unit = Unit {
-    letter: Letter::S,
-    side: Side::A,
-};
-
-const L1: Unit = Unit {
-    letter: Letter::L,
-    side: Side::A,
-};
-
-/// A text, and its packets where it is placed in serial order: each instruction by its line, cycle and unit; then the
-/// length.
-const PACKETS: [(&str, &str, u16); 7] = [
+/// A text, and its packets where it is placed in its order: each instruction by its line, cycle and unit; then the length.
+const PACKETS: [(&str, &str, u16); 17] = [
     (SUM, "1@0.S1 2@1.S1 3@2.L1 ", 3),
     (
         "MVK 3,A1\nADD A5,A1,A2\nLDW *A4,A5",
         "1@0.S1 3@0.D1 2@1.L1 ",
         5,
     ),
+    ("LDW *A4,A5\nMVK 1,A5", "1@0.D1 2@5.S1 ", 6),
     (
         "MPY A1,A1,A4\nADD A1,A1,A5\nSUB A1,A2,A3",
         "2@0.L1 1@0.M1 3@1.L1 ",
         2,
     ),
+    ("ADD A1,B1,A2\nSUB A3,B3,A4", "1@0.L1 2@1.L1 ", 2),
+    ("LDW *A4,A5\nLDW *B4,A6", "1@0.D1 2@1.D2 ", 6),
     ("LDW *A4,A5\nLDW *B4,B6", "1@0.D1 2@0.D2 ", 5),
+    (
+        "L1:\nMVK 0,A0\nMVK 1,A1\nMVK 2,A2\nMVK 3,A3\nMVK 4,A4\nMVK 5,A5\nMVK 6,A6\nMVK 7,A7\nB L1",
+        "2@0.S1 3@1.S1 4@2.S1 10@2.S2 5@3.S1 6@4.S1 7@5.S1 8@6.S1 9@7.S1 ",
+        8,
+    ),
     ("L1: MPY A1,A2,A3\nB L1", "1@0.M1 2@0.S2 ", 6),
     ("STW A1,*A4", "1@0.D1 ", 1),
     ("EMPTY:", "", 0),
+    // Those below have shorter schedules.
+    (
+        "L1: MVK 1,A1\nMVK 2,A2\nB .S1 L1",
+        "1@0.S1 2@1.S1 3@2.S1 ",
+        8,
+    ),
+    (
+        "ADD A1,A2,A3\nCMPEQ A1,A2,A4\nSUB A3,A4,A5",
+        "1@0.L1 2@1.L1 3@2.L1 ",
+        3,
+    ),
+    (
+        "ADD A1,B1,A2\nMPY A1,B1,A3\nMPY A3,A3,A4",
+        "1@0.L1 2@1.M1 3@3.M1 ",
+        5,
+    ),
+    (
+        "L1: SUB A1,1,A1\nMVK 7,A7\nMVK 8,A8\n[A1] B .S1 L1",
+        "1@0.L1 2@0.S1 3@1.S1 4@2.S1 ",
+        8,
+    ),
+    (
+        "L1: MVK 1,A1\nSHL A3,2,A4\nLDW *A4,A5\nADD B1,B2,B3\nADD B1,B2,B4\nADD B1,B2,B5\nADD B1,B2,B6\n[A1] B L1",
+        "1@0.S1 4@0.L2 5@0.S2 6@0.D2 2@1.S1 7@1.L2 8@2.S1 3@2.D1 ",
+        8,
+    ),
+    (
+        "L1: MVK 1,A1\nSHL A3,2,A4\nLDW *A4,A5\nADD B1,B2,B3\nADD B1,B2,B4\nADD B1,B2,B5\nADD B1,B2,B6\n[A1] B .S1 L1",
+        "1@0.S1 4@0.L2 5@0.S2 6@0.D2 2@1.S1 7@1.L2 8@2.S1 3@2.D1 ",
+        8,
+    ),
 ];
 
 /// Three spots for the instructions of the sum, and their packets, or nothing where they are not lawful.
@@ -57,244 +78,71 @@ const SPOTS: [([(u16, Unit); 3], Option<(&str, u16)>); 4] = [
     ([(1, S1), (0, S1), (15, L1)], None),
 ];
 
-/// What a register holds, by side and number.
-type Holds = (Side, u8, u32);
-
-const A: Side = Side::A;
-
-const B: Side = Side::B;
-
-/// A text; what registers hold before its packets are run; how many blocks are run, how the chain ends, and its cycles; and
-/// what registers hold then. The word at 8 is 99 before, and at most nine blocks are run.
-const RUNS: [(&str, &[Holds], (u32, End, u64), &[Holds]); 9] = [
-    ("", &[], (0, End::End, 0), &[]),
-    (
-        "[!A1] LDW *A4++,A4",
-        &[(A, 4, 8)],
-        (1, End::End, 5),
-        &[(A, 4, 99)],
-    ),
-    (
-        "[!A1] LDW *A4++,A4",
-        &[(A, 1, 1), (A, 4, 8)],
-        (1, End::End, 5),
-        &[(A, 1, 1), (A, 4, 8)],
-    ),
-    (
-        "LDH *A4,A5",
-        &[(A, 4, 1), (A, 5, 7)],
-        (1, End::End, 5),
-        &[(A, 4, 1), (A, 5, 0)],
-    ),
-    (
-        "STW A1,*A4\nLDW *B4,B5",
-        &[(A, 1, 9), (A, 4, 8), (B, 4, 8)],
-        (1, End::End, 6),
-        &[(A, 1, 9), (B, 5, 9)],
-    ),
-    (
-        "L1: SUB A1,1,A1\n[A1] B L1",
-        &[(A, 1, 3)],
-        (3, End::End, 21),
-        &[(A, 1, 0)],
-    ),
-    (
-        "L1: SUB A1,1,A1\n[A1] B L1",
-        &[(A, 1, 12)],
-        (9, End::Limit, 63),
-        &[(A, 1, 3)],
-    ),
-    (
-        "B B3",
-        &[(B, 3, 0x100)],
-        (1, End::Register(0x100), 6),
-        &[(B, 3, 0x100)],
-    ),
-    (
-        "MVK 1,A1\nL: LDW *A4,A5\nMPY A5,A5,A5",
-        &[(A, 4, 8)],
-        (2, End::End, 8),
-        &[(A, 1, 1), (A, 5, 9801)],
-    ),
-];
-
-fn plan_of(alloc: Global, block: Block) -> Result<Plan, Fail> {
-    match Plan::new(alloc, block) {
-        Ok(plan) => Ok(plan),
-        Err((_, error)) => Err(error.into()),
+fn spot_of(stands: &Placed) -> Spot {
+    Spot {
+        cycle: stands.cycle,
+        unit: stands.unit,
     }
 }
 
-/// The last block of a text.
-fn block_of(rt: &impl Abort, alloc: Global, text: &str) -> Result<Block, Fail> {
-    let mut blocks = read_program(InstructionSet::Core, alloc, text.as_bytes())?.into_blocks();
-    Ok(blocks.pop().expect(rt, "a block"))
-}
-
-/// A board on which a block's instructions are placed in serial order.
-fn board_of(rt: &impl Abort, alloc: Global, block: Block) -> Result<Board, Fail> {
-    let Ok(mut board) = Board::new(alloc, plan_of(alloc, block)?, 0) else {
-        return Err("memory".into());
-    };
-    for number in 0..board.plan().len() {
-        assert!(rt; number < board.plan().len());
-        board.place(number, Who::Tail).map_err(|_| "no room")?;
-    }
-    Ok(board)
-}
-
-/// The packets of a text whose blocks are placed in serial order.
-fn packets(rt: &impl Abort, alloc: Global, text: &str) -> Result<Packets, Fail> {
-    let mut packets = Packets::new(alloc);
-    for block in read_program(InstructionSet::Core, alloc, text.as_bytes())?.into_blocks() {
-        let board = board_of(rt, alloc, block)?;
-        assert!(rt; board.complete());
-        assert!(rt; packets.len() < MOST_BLOCKS);
-        match packets.push(packets_of(alloc, &board)?) {
-            Ok(()) => {}
-            Err((_, error)) => return Err(error.into()),
-        }
-    }
-    Ok(packets)
-}
-
-fn register(side: Side, number: u8) -> Reg {
-    Reg {
-        side,
-        number: number % 16,
-    }
-}
-
-fn opening(alloc: Global, holds: &[Holds]) -> Result<State, Fail> {
-    let mut state = State::new(alloc)?;
-    let _ = state.poke(8, 99);
-    for (side, number, word) in holds {
-        state.set(register(*side, *number), *word);
-    }
-    Ok(state)
-}
-
-fn unit_name(unit: Unit) -> &'static str {
-    match (unit.letter, unit.side) {
-        (Letter::L, Side::A) => "L1",
-        (Letter::S, Side::A) => "S1",
-        (Letter::M, Side::A) => "M1",
-        (Letter::D, Side::A) => "D1",
-        (Letter::L, Side::B) => "L2",
-        (Letter::S, Side::B) => "S2",
-        (Letter::M, Side::B) => "M2",
-        (Letter::D, Side::B) => "D2",
-    }
-}
-
-fn packets_text(rt: &impl Abort, alloc: Global, block: &PacketBlock) -> Result<String, Fail> {
+/// Ends the test where packets aren't these, or an instruction has another unit than it stands on.
+fn has_packets(rt: &impl Abort, alloc: Global, block: &PacketBlock, (wanted, length): (&str, u16)) {
     let mut all = String::new(alloc);
-    for placed in block.placed() {
-        equal(rt, &placed.insn.unit(), &Some(placed.unit));
-        all.push_str(&format!(in alloc;
-            "{}@{}.{} ",
-            placed.line,
-            placed.cycle,
-            unit_name(placed.unit)
-        )?)?;
+    for stands in block.placed() {
+        equal(rt, &stands.insn.unit(), &Some(stands.unit));
+        let spot = spot_text(alloc, spot_of(stands)).expect(rt, "memory");
+        let text = format!(in alloc; "{}@{} ", stands.line, spot.as_str()).expect(rt, "memory");
+        all.push_str(&text).expect(rt, "memory");
     }
-    Ok(all)
+    equal(rt, &all.as_str(), &wanted);
+    equal_in(rt, &wanted, &block.length(), &length);
+}
+
+/// The packets of a complete board.
+fn packed(rt: &impl Abort, alloc: Global, board: &Board) -> PacketBlock {
+    assert!(rt; board.complete());
+    packets_of(alloc, board).expect(rt, "memory")
 }
 
 #[test]
-fn packets_of_boards(rt: HostRuntime) -> Result<(), Fail> {
+fn packets_of_boards(rt: HostRuntime) {
     for (text, packets, length) in &PACKETS {
-        let board = board_of(&rt, rt.alloc(), block_of(&rt, rt.alloc(), text)?)?;
-        assert!(rt; board.complete());
-        let block = packets_of(rt.alloc(), &board)?;
-        let found = packets_text(&rt, rt.alloc(), &block)?;
-        equal_in(&rt, &text, &found.as_str(), packets);
-        equal_in(&rt, &text, &block.length(), length);
-        equal(
-            &rt,
-            &block.label().is_some(),
-            &board.plan().block().label().is_some(),
-        );
+        let board = placed(&rt, rt.alloc(), text);
+        equal_in(&rt, text, &board.length(), length);
+        let block = packed(&rt, rt.alloc(), &board);
+        has_packets(&rt, rt.alloc(), &block, (packets, *length));
+        let is_named = board.plan().block().label().is_some();
+        equal_in(&rt, text, &block.label().is_some(), &is_named);
     }
-    Ok(())
-}
-
-/// The packets of each text leave what its row says, and what its blocks leave run serially.
-#[test]
-fn packets_run_as_blocks(rt: HostRuntime) -> Result<(), Fail> {
-    for (text, holds, (blocks, stop, cycles), left) in &RUNS {
-        let packets = packets(&rt, rt.alloc(), text)?;
-        let closed = packets.closed();
-        assert!(rt; closed);
-        let mut state = opening(rt.alloc(), holds)?;
-        let (chain, taken) = run_chain(&packets, &mut state, 9)?;
-        let want = Chain {
-            blocks: *blocks,
-            stop: *stop,
-        };
-        equal_in(&rt, &text, &chain, &want);
-        equal_in(&rt, &text, &taken, cycles);
-        for (side, number, word) in *left {
-            equal_in(&rt, &text, &state.reg(register(*side, *number)), word);
-        }
-        let mut serial = opening(rt.alloc(), holds)?;
-        let program = read_program(InstructionSet::Core, rt.alloc(), text.as_bytes())?;
-        equal_in(&rt, &text, &run_program(&program, &mut serial, 9)?, &chain);
-        assert!(rt; state.registers() == serial.registers(), "{text}");
-        assert!(rt; state.faults() == serial.faults(), "{text}");
-        equal_in(&rt, &text, &state.load(8, 4), &serial.load(8, 4));
-    }
-    Ok(())
 }
 
 #[test]
-fn packets_at_spots(rt: HostRuntime) -> Result<(), Fail> {
-    let plan = plan_of(rt.alloc(), block_of(&rt, rt.alloc(), SUM)?)?;
-    for (stands, want) in &SPOTS {
+fn packets_at_spots(rt: HostRuntime) {
+    let plan = plan_of(&rt, rt.alloc(), SUM);
+    for (stands, wanted) in &SPOTS {
         let [first, second, third] = *stands;
         let spots = [first, second, third].map(|(cycle, unit)| Spot { cycle, unit });
-        match (packets_at(rt.alloc(), &plan, &spots), want) {
-            (Ok(block), Some((packets, length))) => {
-                let found = packets_text(&rt, rt.alloc(), &block)?;
-                equal(&rt, &found.as_str(), packets);
-                equal(&rt, &block.length(), length);
-            }
+        match (packets_at(rt.alloc(), &plan, &spots), wanted) {
+            (Ok(block), Some(packets)) => has_packets(&rt, rt.alloc(), &block, *packets),
             (Err(fault), None) => equal(&rt, &fault, &AtFault::NotLawful),
-            _ => return Err("another answer".into()),
+            _ => panic!(rt; "{stands:?}"),
         }
-        assert!(rt;
-            matches!(
-                packets_at(rt.alloc(), &plan, &spots[..2]),
-                Err(AtFault::NotLawful)
-            )
-        );
+        let two = packets_at(rt.alloc(), &plan, &spots[..2]);
+        equal(&rt, &two.err(), &Some(AtFault::NotLawful));
     }
-    Ok(())
 }
 
 /// As many instructions as a block can have, each in a cycle of its own.
 #[test]
-fn a_full_block(rt: HostRuntime) -> Result<(), Fail> {
-    let mut text = String::new(rt.alloc());
-    for _ in 0..MOST_INSTRUCTIONS {
-        text.push_str("ADD A1,A2,A1\n")?;
-    }
-    let board = board_of(&rt, rt.alloc(), block_of(&rt, rt.alloc(), &text)?)?;
-    assert!(rt; board.complete());
-    let block = packets_of(rt.alloc(), &board)?;
-    equal(&rt, &block.placed().len(), &MOST_INSTRUCTIONS);
-    equal(&rt, &block.length(), &256);
+fn a_full_block(rt: HostRuntime) {
+    let board = placed(&rt, rt.alloc(), &longest(&rt, rt.alloc()));
+    let block = packed(&rt, rt.alloc(), &board);
     let mut spots = Vec::new(rt.alloc());
-    for placed in block.placed() {
-        spots.push(Spot {
-            cycle: placed.cycle,
-            unit: placed.unit,
-        })?;
+    for stands in block.placed() {
+        spots.push(spot_of(stands)).expect(&rt, "memory");
     }
-    let Ok(same) = packets_at(rt.alloc(), board.plan(), &spots) else {
-        return Err("the spots are lawful".into());
-    };
-    equal(&rt, &same.placed().len(), &MOST_INSTRUCTIONS);
-    equal(&rt, &same.length(), &256);
-    Ok(())
+    let same = packets_at(rt.alloc(), board.plan(), &spots).expect(&rt, "lawful");
+    for block in [&block, &same] {
+        equal(&rt, &(block.placed().len(), block.length()), &(256, 256));
+    }
 }

@@ -1,7 +1,5 @@
-//! Whole schedules, their workers, and what wakes those.
+//! Workers, whole schedules by two of them, and what wakes those.
 
 mod bells;
 mod gate;
-mod stopped;
-mod turns;
 mod worker;

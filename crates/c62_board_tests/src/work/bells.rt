@@ -1,26 +1,24 @@
 //! What turns leave on the bells, and whom a call wakes.
 
-use crate::expect::equal;
-use crate::work::worker::{SUM, desk_on, wait_for};
+use crate::expect::{equal, equal_in};
+use crate::made::{SUM, desk_on};
 use c62_insn::Side::{self, A, B};
-use c62_view::Desk;
 use c62_work::bells::{ALONE, ASLEEP, Bell, Bells, QUIET, RUNG};
 use c62_work::take_turn;
-use std::alloc::{AllocError, Global};
+use std::sync::Mutex;
 use std::sync::atomic::{AtomicU64, Ordering};
-use std::sync::{Mutex, Wait};
-use std::test::Fail;
 use std::thread::join;
 use std::time::Duration;
 
 /// Whose turn it was, and what stands on the bells of side A and of side B behind it.
 type Behind = (Side, u64, u64);
 
-/// Blocks, and turns on each.
-const TURNS: [(&str, &[Behind]); 3] = [
+/// Blocks, whether side A's worker has ended, and turns on each.
+const TURNS: [(&str, bool, &[Behind]); 4] = [
     // Side B waits for all to be placed, and is called for nothing else.
     (
         SUM,
+        false,
         &[
             (B, RUNG, QUIET),
             (A, RUNG, QUIET),
@@ -29,9 +27,21 @@ const TURNS: [(&str, &[Behind]); 3] = [
             (B, RUNG, RUNG),
         ],
     ),
+    // Nobody is called who has nobody to wait for.
+    (
+        SUM,
+        true,
+        &[
+            (B, RUNG, ALONE),
+            (A, RUNG, ALONE),
+            (A, RUNG, ALONE),
+            (A, RUNG, ALONE),
+        ],
+    ),
     // Each side waits for what the other one makes ready.
     (
         "MVK 5,B1\nADD A1,B1,A2\nADD B2,A2,B3\nADD A2,A3,A4",
+        false,
         &[
             (A, QUIET, RUNG),
             (B, RUNG, RUNG),
@@ -44,6 +54,7 @@ const TURNS: [(&str, &[Behind]); 3] = [
     ),
     (
         "MVK 5,A1\nADD B1,A1,B2",
+        false,
         &[
             (B, RUNG, QUIET),
             (A, RUNG, RUNG),
@@ -54,62 +65,32 @@ const TURNS: [(&str, &[Behind]); 3] = [
     ),
 ];
 
-/// What stands on the bells of side A and side B.
-fn words(bells: &Bells) -> (u64, u64) {
-    (
-        bells.first.word.load(Ordering::SeqCst),
-        bells.second.word.load(Ordering::SeqCst),
-    )
-}
-
-/// What stands on the bells behind each turn of these sides.
-fn bells_behind<R: Wait>(
-    rt: &R,
-    alloc: Global,
-    desk: &Mutex<Desk>,
-    turns: &[Behind],
-) -> Result<Vec<Behind>, AllocError> {
-    let bells = Bells::new();
-    let mut found = Vec::new(alloc);
-    for (side, _, _) in turns {
-        take_turn(rt, desk, None, *side, Some(&bells));
-        let (first, second) = words(&bells);
-        found.push((*side, first, second))?;
-    }
-    Ok(found)
-}
-
-#[test]
-fn placings_call(rt: HostRuntime) -> Result<(), Fail> {
-    for (text, turns) in &TURNS {
-        let (desk, _viewer) = desk_on(&rt, rt.alloc(), text)?;
-        let desk = Mutex::new(desk);
-        let found = bells_behind(&rt, rt.alloc(), &desk, turns);
-        desk.into_inner().close(&rt);
-        assert!(rt; &found?[..] == *turns, "{text}");
-    }
-    Ok(())
-}
-
-/// Nobody is called who has nobody to wait for, and that one waits no more.
-#[test]
-fn a_worker_that_ended_is_not_awaited(rt: HostRuntime) -> Result<(), Fail> {
-    let (desk, _viewer) = desk_on(&rt, rt.alloc(), SUM)?;
-    let desk = Mutex::new(desk);
-    let bells = Bells::new();
-    bells.ended(A);
-    for side in [B, A, A, A] {
-        take_turn(&rt, &desk, None, side, Some(&bells));
-    }
-    desk.into_inner().close(&rt);
-    bells.second.wait(&rt, long_nap());
-    equal(&rt, &words(&bells), &(RUNG, ALONE));
-    Ok(())
-}
-
 /// A nap that nobody waits for.
 fn long_nap() -> Duration {
     Duration::from_secs(100_000)
+}
+
+/// Who is called, or has nobody to wait for, doesn't wait.
+#[test]
+fn placings_call(rt: HostRuntime) {
+    for (text, ended, turns) in &TURNS {
+        let (desk, _first, _second) = desk_on(&rt, rt.alloc(), text, 0);
+        let desk = Mutex::new(desk);
+        let bells = Bells::new();
+        if *ended {
+            bells.ended(A);
+        }
+        for (side, first, second) in *turns {
+            take_turn(&rt, &desk, None, *side, Some(&bells));
+            let words = (
+                bells.first.word.load(Ordering::SeqCst),
+                bells.second.word.load(Ordering::SeqCst),
+            );
+            equal_in(&rt, text, &words, &(*first, *second));
+        }
+        desk.into_inner().close(&rt);
+        bells.second.wait(&rt, long_nap());
+    }
 }
 
 /// How often it is looked whether a worker is asleep.
@@ -125,29 +106,20 @@ fn is_asleep(bell: &Bell) -> bool {
     false
 }
 
-/// A worker that sleeps is woken by a call, long before its nap is over.
+/// A worker that sleeps is woken by a call, long before its nap is over: else this test lasts too long.
 #[test]
-fn a_call_wakes(rt: HostRuntime) -> Result<(), Fail> {
+fn a_call_wakes(rt: HostRuntime) {
     let bell = Bell {
         word: AtomicU64::new(QUIET),
     };
-    let is_awake = AtomicU64::new(0);
-    let ((), seen) = join(
+    let ((), was_asleep) = join(
         &rt,
+        || bell.wait(&rt, long_nap()),
         || {
-            bell.wait(&rt, long_nap());
-            is_awake.store(1, Ordering::SeqCst);
-        },
-        || {
-            let is_called = is_asleep(&bell);
+            let was_asleep = is_asleep(&bell);
             bell.ring();
-            let is_woken = wait_for(&is_awake);
-            // However it goes, the sleep ends.
-            bell.word.store(ALONE, Ordering::SeqCst);
-            bell.word.wake_all();
-            (is_called, is_woken)
+            was_asleep
         },
     );
-    equal(&rt, &seen, &(true, true));
-    Ok(())
+    equal(&rt, &was_asleep, &true);
 }

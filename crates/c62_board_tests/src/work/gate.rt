@@ -1,77 +1,26 @@
-//! What a gate is told of a worker's turns.
+//! What a gate is told of a worker's turns, and schedules in which one holds workers back.
 
-use crate::expect::equal;
-use crate::work::worker::{SUM, desk_on, journal_text, plan_of};
-use c62_board::{Spot, Turn};
-use c62_insn::{Letter, Side, Unit};
-use c62_view::{Desk, Viewer};
-use c62_work::{Gate, Options, schedule, worker};
+use crate::expect::{equal, equal_in};
+use crate::made::{L1, S1, SIX, SUM, desk_on, has_entries, plan_of};
+use c62_board::{Board, Entry, Spot, Turn, Who};
+use c62_insn::Side;
+use c62_view::Desk;
+use c62_work::{Gate, Options, goes_on, schedule, worker};
+use std::alloc::Global;
 use std::cell::Cell;
+use std::process::Abort;
 use std::sync::atomic::{AtomicU64, Ordering};
 use std::sync::{Mutex, MutexGuard, Wait};
-use std::test::Fail;
+use std::thread::{Threads, yield_now};
 
-/// Counts the turns of each side.
-#[derive(Drop)]
-struct Count {
-    made: [AtomicU64; 2],
-}
+/// What a gate is told: a side, the number of its turn, what that came to where it is over, and whether nobody held the lock.
+type Told = (Side, u32, Option<Turn>, bool);
 
-impl Gate for Count {
-    fn before(&self, _side: Side, _turn: u32) {}
-
-    fn after(&self, side: Side, _turn: u32, _came: &Turn) {
-        let [of_a, of_b] = &self.made;
-        match side {
-            Side::A => of_a.fetch_add(1, Ordering::SeqCst),
-            Side::B => of_b.fetch_add(1, Ordering::SeqCst),
-        };
-    }
-}
-
-/// Where turns are few, each side makes all of them, and what is left is finished.
-#[test]
-fn each_side_has_its_turns(rt: HostRuntime) -> Result<(), Fail> {
-    let cases = [
-        (SUM, "+0@0.S1A +1@1.S1A +2@2.L1T "),
-        (
-            "MVK 5,B1\nMVK 7,B2\nADD B1,B2,B3",
-            "+0@0.S2B +1@1.S2B +2@2.L2T ",
-        ),
-    ];
-    let options = Options {
-        turns: 2,
-        budget: 0,
-    };
-    for (text, want) in cases {
-        let gate = Count {
-            made: [0; 2].map(AtomicU64::new),
-        };
-        let plan = plan_of(&rt, rt.alloc(), text)?;
-        let board = schedule(&rt, rt.alloc(), plan, options, &gate)?;
-        let found = journal_text(rt.alloc(), &board)?;
-        equal(&rt, &found.as_str(), &want);
-        let made = gate.made.map(|count| count.load(Ordering::SeqCst));
-        equal(&rt, &made, &[2, 2]);
-    }
-    Ok(())
-}
-
-/// What a gate is told.
-#[derive(Clone, Copy, PartialEq, Eq, Debug)]
-enum Told {
-    Nothing,
-    Before(Side, u32),
-    After(Side, u32, Turn),
-    /// While the lock was held.
-    Locked,
-}
-
-/// Keeps what it is told of the turns of a worker, and whether the lock was free when it was told.
+/// Keeps the first eight that it is told of the turns of a worker, and how many there were.
 #[derive(Drop)]
 struct Watch<'a> {
     desk: &'a Mutex<Desk>,
-    told: Cell<[Told; 8]>,
+    told: Cell<[Option<Told>; 8]>,
     count: Cell<usize>,
 }
 
@@ -85,11 +34,11 @@ impl Watch<'_> {
         true
     }
 
-    fn keep(&self, what: Told) {
+    fn keep(&self, side: Side, turn: u32, came: Option<Turn>) {
         let count = self.count.get();
         let mut told = self.told.get();
         if let Some(slot) = told.get_mut(count) {
-            *slot = if self.is_free() { what } else { Told::Locked };
+            *slot = Some((side, turn, came, self.is_free()));
         }
         self.told.set(told);
         self.count.set(count.saturating_add(1));
@@ -98,68 +47,197 @@ impl Watch<'_> {
 
 impl Gate for Watch<'_> {
     fn before(&self, side: Side, turn: u32) {
-        self.keep(Told::Before(side, turn));
+        self.keep(side, turn, None);
     }
 
     fn after(&self, side: Side, turn: u32, came: &Turn) {
-        self.keep(Told::After(side, turn, *came));
+        self.keep(side, turn, Some(*came));
     }
 }
 
-/// How many turns a worker makes, how often it told its gate of them, and what.
-fn watched<R: Wait>(
-    rt: &R,
-    desk: &Mutex<Desk>,
-    viewer: &mut Viewer,
-    side: Side,
-) -> (u32, usize, [Told; 8]) {
-    let gate = Watch {
-        desk,
-        told: Cell::new([Told::Nothing; 8]),
-        count: Cell::new(0),
-    };
-    let turns = worker(rt, desk, viewer, side, 4, &gate);
-    (turns, gate.count.get(), gate.told.get())
-}
-
-/// What a gate is told of four turns of a side.
-fn told_of(side: Side, turns: [Turn; 4]) -> [Told; 8] {
-    let [first, second, third, fourth] = turns;
-    [
-        Told::Before(side, 0),
-        Told::After(side, 0, first),
-        Told::Before(side, 1),
-        Told::After(side, 1, second),
-        Told::Before(side, 2),
-        Told::After(side, 2, third),
-        Told::Before(side, 3),
-        Told::After(side, 3, fourth),
-    ]
-}
-
-/// A placing on a unit of side A.
-fn placed(number: u16, cycle: u16, letter: Letter) -> Turn {
-    let unit = Unit {
-        letter,
-        side: Side::A,
-    };
-    Turn::Placed(number, Spot { cycle, unit })
-}
+/// The first turns of the worker of a side at the block of three, how many it makes of a hundred, and how often its gate is called.
+const WATCHED: [(Side, [Turn; 4], (u32, usize)); 2] = [
+    (
+        Side::A,
+        [
+            Turn::Placed(0, Spot { cycle: 0, unit: S1 }),
+            Turn::Placed(1, Spot { cycle: 1, unit: S1 }),
+            Turn::Placed(2, Spot { cycle: 2, unit: L1 }),
+            Turn::Done,
+        ],
+        (4, 8),
+    ),
+    (Side::B, [Turn::Idle; 4], (100, 200)),
+];
 
 #[test]
-fn a_gate_is_told_each_turn(rt: HostRuntime) -> Result<(), Fail> {
-    let of_a = [
-        placed(0, 0, Letter::S),
-        placed(1, 1, Letter::S),
-        placed(2, 2, Letter::L),
-        Turn::Done,
-    ];
-    for (side, turns) in [(Side::A, of_a), (Side::B, [Turn::Idle; 4])] {
-        let (desk, mut viewer) = desk_on(&rt, rt.alloc(), SUM)?;
+fn a_gate_is_told_each_turn(rt: HostRuntime) {
+    for (side, turns, counts) in &WATCHED {
+        let (desk, mut viewer, _other) = desk_on(&rt, rt.alloc(), SUM, 0);
         let desk = Mutex::new(desk);
-        let seen = watched(&rt, &desk, &mut viewer, side);
+        let gate = Watch {
+            desk: &desk,
+            told: Cell::new([None; 8]),
+            count: Cell::new(0),
+        };
+        let made = worker(&rt, &desk, &mut viewer, *side, 100, &gate);
+        let (told, count) = (gate.told.get(), gate.count.get());
         desk.into_inner().close(&rt);
-        equal(&rt, &seen, &(4, 8, told_of(side, turns)));
+        equal(&rt, &(made, count), counts);
+        let [first, second, third, fourth] = *turns;
+        let wanted = [
+            Some((*side, 0, None, true)),
+            Some((*side, 0, Some(first), true)),
+            Some((*side, 1, None, true)),
+            Some((*side, 1, Some(second), true)),
+            Some((*side, 2, None, true)),
+            Some((*side, 2, Some(third), true)),
+            Some((*side, 3, None, true)),
+            Some((*side, 3, Some(fourth), true)),
+        ];
+        equal(&rt, &told, &wanted);
     }
-    Ok(())
+}
+
+/// How often a gate looks at most for what it waits for.
+const POLLS: u32 = 10_000_000;
+
+/// Holds the worker of a side before one of its turns, until the other worker has made its last one; where that is the first, the
+/// other worker is held before its own, until this one has come there.
+#[derive(Drop)]
+struct Held {
+    side: Side,
+    turn: u32,
+    /// The number of the last turn that a worker may make.
+    last: u32,
+    came: AtomicU64,
+    over: AtomicU64,
+    /// How many waits had an end.
+    met: AtomicU64,
+    /// How many turns side A made, and side B.
+    made: [AtomicU64; 2],
+}
+
+impl Held {
+    /// Waits until this is 1.
+    fn wait_for(&self, flag: &AtomicU64) {
+        for _ in 0..POLLS {
+            if flag.load(Ordering::SeqCst) == 1 {
+                self.met.fetch_add(1, Ordering::SeqCst);
+                return;
+            }
+            yield_now();
+        }
+    }
+}
+
+impl Gate for Held {
+    fn before(&self, side: Side, turn: u32) {
+        if turn != self.turn {
+            return;
+        }
+        if side == self.side {
+            self.came.store(1, Ordering::SeqCst);
+            self.wait_for(&self.over);
+        } else if turn == 0 {
+            self.wait_for(&self.came);
+        }
+    }
+
+    fn after(&self, side: Side, turn: u32, came: &Turn) {
+        let [of_a, of_b] = &self.made;
+        match side {
+            Side::A => of_a.fetch_add(1, Ordering::SeqCst),
+            Side::B => of_b.fetch_add(1, Ordering::SeqCst),
+        };
+        if side != self.side && (turn >= self.last || !goes_on(*came)) {
+            self.over.store(1, Ordering::SeqCst);
+        }
+    }
+}
+
+/// A schedule of so many turns in which a side is held before one of its own; how many waits had an end, and how many turns were made.
+fn schedule_held<R: Abort + Threads + Wait + Sync>(
+    rt: &R,
+    alloc: Global,
+    text: &str,
+    turns: u32,
+    (side, turn): (Side, u32),
+) -> (Board, u64, [u64; 2]) {
+    let gate = Held {
+        side,
+        turn,
+        last: turns.saturating_sub(1),
+        came: AtomicU64::new(0),
+        over: AtomicU64::new(0),
+        met: AtomicU64::new(0),
+        made: [0; 2].map(AtomicU64::new),
+    };
+    let options = Options { turns, budget: 0 };
+    let plan = plan_of(rt, alloc, text);
+    let board = schedule(rt, alloc, plan, options, &gate).expect(rt, text);
+    let met = gate.met.load(Ordering::SeqCst);
+    let made = gate.made.map(|count| count.load(Ordering::SeqCst));
+    (board, met, made)
+}
+
+/// Blocks, the turns of each side, before which of its turns side A is held, and how many waits that makes; the entries, and how many
+/// turns each side made.
+const HELD: [(&str, u32, u32, u64, &str, [u64; 2]); 5] = [
+    // Both workers are at work at a time, though the second one has nothing to place.
+    (SUM, 4, 0, 2, "+0@0.S1A +1@1.S1A +2@2.L1A ", [4, 4]),
+    // What is held comes later.
+    (
+        "LDW *A4,A5\nLDW *B4,B6",
+        4,
+        0,
+        2,
+        "+1@0.D2B +0@0.D1A ",
+        [2, 4],
+    ),
+    // The multiply of side A is more urgent than its MVK, but only once side B has placed what it reads. A side that planned before
+    // its gate lets it on would place the MVK.
+    (
+        "MVK 1,B1\nMPY A2,B1,A3\nMVK 5,A9",
+        4,
+        0,
+        2,
+        "+0@0.S2B +1@1.M1A +2@0.S1A ",
+        [3, 4],
+    ),
+    // Where turns are few, each side makes all of them, and what is left is finished.
+    (SUM, 2, 99, 0, "+0@0.S1A +1@1.S1A +2@2.L1Tail ", [2, 2]),
+    (
+        "MVK 5,B1\nMVK 7,B2\nADD B1,B2,B3",
+        2,
+        99,
+        0,
+        "+0@0.S2B +1@1.S2B +2@2.L2Tail ",
+        [2, 2],
+    ),
+];
+
+#[test]
+fn a_gate_holds_a_worker_back(rt: HostRuntime) {
+    for (text, turns, turn, met, journal, made) in &HELD {
+        let found = schedule_held(&rt, rt.alloc(), text, *turns, (Side::A, *turn));
+        has_entries(&rt, rt.alloc(), found.0.journal(), journal);
+        equal_in(&rt, text, &(found.1, found.2), &(*met, *made));
+    }
+}
+
+/// Twelve turns are more than a worker needs for the block of six.
+#[test]
+fn a_worker_is_held_at_any_turn(rt: HostRuntime) {
+    for (side, other) in [(Side::A, Who::B), (Side::B, Who::A)] {
+        for turn in 0..12 {
+            let (board, _, _) = schedule_held(&rt, rt.alloc(), SIX, 12, (side, turn));
+            assert!(rt; board.complete());
+            equal(&rt, &board.plan().len(), &6);
+            if turn == 0 {
+                let first = board.journal().first();
+                assert!(rt; matches!(first, Some(Entry::Place(_, _, by)) if *by == other));
+            }
+        }
+    }
 }
