@@ -191,7 +191,8 @@ fn goes_round<R: Abort + Wait>(rt: &R, desk: &mut Desk, viewer: &mut Viewer, rou
 {
     equal(rt, &planned(viewer, Side::A), &Some(round.plan));
     let told = told_of(rt, desk, &round.deed);
-    let [first, second] = round.refused;
+    let refused = round.refused;
+    let [first, second] = refused;
     refuses(rt, desk, first);
     refuses(rt, desk, second);
     viewer.learn(told);
@@ -199,7 +200,8 @@ fn goes_round<R: Abort + Wait>(rt: &R, desk: &mut Desk, viewer: &mut Viewer, rou
 
 #[test]
 fn viewers_plan_and_learn(rt: HostRuntime) {
-    for (text, budget, of_b, [one, two], last, journal) in &VIEWED {
+    for (text, budget, of_b, rounds, last, journal) in &VIEWED {
+        let [one, two] = rounds;
         let (mut desk, mut first, mut second) = desk_on(&rt, rt.alloc(), text, *budget);
         equal_in(&rt, text, &planned(&mut second, Side::B), of_b);
         goes_round(&rt, &mut desk, &mut first, one);
