@@ -107,32 +107,18 @@ fn begun_entries(entries: &[Entry]) -> Option<&[Entry]>
     }
 }
 
-/// The board that these entries lead to.
-fn replayed(alloc: Global, plan: Plan, entries: &[Entry]) -> Option<Board>
-    ensures { IfSome result (Has plan entries.now BUDGET) }
-{
-    match Board::replay(alloc, plan, BUDGET, entries) {
-        Ok(board) => Some(board),
-        Err(_) => None,
-    }
-}
-
-fn copied(alloc: Global, plan: &Plan) -> Option<Plan>
-    ensures { IfSome result (λ copy. copy ≡ plan.now) }
-{
-    match plan.copy(alloc) {
-        Ok(copy) => Some(copy),
-        Err(_) => None,
-    }
-}
-
 /// The board that the first entries of a whole one's journal lead to.
 fn begun_of(alloc: Global, whole: &Board) -> Option<Board>
     ensures { IfSome result (Has whole.now.plan (begun_entries whole.now.journal) BUDGET) }
 {
-    let plan = copied(alloc, whole.plan())?;
+    let Ok(plan) = whole.plan().copy(alloc) else {
+        return None;
+    };
     let entries = begun_entries(whole.journal())?;
-    replayed(alloc, plan, entries)
+    match Board::replay(alloc, plan, BUDGET, entries) {
+        Ok(board) => Some(board),
+        Err(_) => None,
+    }
 }
 
 /// A board of it on which they had their first turns. Its journal is full.

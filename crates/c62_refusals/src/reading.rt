@@ -24,22 +24,14 @@ pub(crate) fn reads_program(alloc: Global, text: &'static str) -> Option<Came> {
     })
 }
 
-/// Whether a listing was refused memory.
-fn is_memory(fault: &ListFault) -> bool {
-    match fault {
-        ListFault::Memory => true,
-        ListFault::Read(fault) => matches!(fault.cause, Cause::Memory),
-        _ => false,
-    }
-}
-
 /// Reads the listing of a text's packets.
 pub(crate) fn reads_listing(alloc: Global, text: &str) -> Option<Came> {
     let listing = listing_of(alloc, &packets_in(alloc, text)?)?;
     twice((), |_| {
         match read_listing(InstructionSet::Core, alloc, listing.as_bytes()) {
             Ok(packets) => Some(look_at(&packets)),
-            Err(fault) => refused(is_memory(&fault)),
+            Err(ListFault::Read(fault)) => refused(matches!(fault.cause, Cause::Memory)),
+            Err(fault) => refused(matches!(fault, ListFault::Memory)),
         }
     })
 }
