@@ -146,6 +146,7 @@ fn the_least_urgent_makes_way(rt: HostRuntime) {
     for (text, turns, turn, entries) in &EJECTED {
         let mut board = after(&rt, rt.alloc(), text, *turns);
         let before = board.journal().len();
+        equal_in(&rt, text, &before, turns);
         has_turns(&rt, rt.alloc(), &mut board, 1, turn);
         let added = board.journal().get(before..).unwrap_or_default();
         has_entries(&rt, rt.alloc(), added, entries);
@@ -273,6 +274,12 @@ fn a_chain_of_256(rt: HostRuntime) {
             spot,
             seen: 0,
         };
+        let entry = Entry::Place(number, spot, Who::Tail);
+        equal(
+            &rt,
+            &board.journal().get(usize::from(number)),
+            &Some(&entry),
+        );
         equal(&rt, &board.commit(&proposal, Who::B), &Ok(spot));
     }
     assert!(rt; board.complete());

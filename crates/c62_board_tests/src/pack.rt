@@ -10,7 +10,7 @@ use std::alloc::Global;
 use std::process::Abort;
 
 /// A text, and its packets where it is placed in its order: each instruction by its line, cycle and unit; then the length.
-const PACKETS: [(&str, &str, u16); 17] = [
+const PACKETS: [(&str, &str, u16); 18] = [
     (SUM, "1@0.S1 2@1.S1 3@2.L1 ", 3),
     (
         "MVK 3,A1\nADD A5,A1,A2\nLDW *A4,A5",
@@ -33,6 +33,7 @@ const PACKETS: [(&str, &str, u16); 17] = [
     ),
     ("L1: MPY A1,A2,A3\nB L1", "1@0.M1 2@0.S2 ", 6),
     ("STW A1,*A4", "1@0.D1 ", 1),
+    ("MVK 1,A1", "1@0.S1 ", 1),
     ("EMPTY:", "", 0),
     // Those below have shorter schedules.
     (
