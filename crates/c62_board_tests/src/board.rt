@@ -68,8 +68,9 @@ const WHOLE: [(&str, u16, usize, &str, &str, (u16, u16)); 5] = [
     ),
 ];
 
-/// A block with one ejection, how many turns there are before that, what the turn is then, and its entries. Three may make way in the
-/// last three, of which none has a reader, then the fifth, then the sixth. It is the one of least height, and of greatest number.
+/// A block with one ejection, how many turns there are before that, what the turn is then, and its entries. In the last three blocks
+/// numbers 3, 4 and 5 might make way, of which none is read, then number 4, and then number 5. It is the one of least height, and of
+/// several the one of greatest number.
 const EJECTED: [(&str, usize, &str, &str); 4] = [
     (TEN, 8, "-4+8@0.M1 ", "-7A -6A -5A -4A +8@0.M1A "),
     (
