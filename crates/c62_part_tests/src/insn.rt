@@ -178,7 +178,7 @@ fn reads_and_writes_in_order(rt: HostRuntime) -> Result<(), Fail> {
     ];
     for (line, reads, writes, path, delay) in rows {
         let (What::Insn(insn) | What::Jump(insn, _)) = read_insn(Core, line.as_bytes())?.what else {
-            assert!(rt; false, "{line}");
+            assert!(rt; false);
             return Ok(());
         };
         equal_in(&rt, &line, &insn.reads().as_slice(), &reads);

@@ -36,28 +36,27 @@ fn push_block(out: &mut String, alloc: Global, block: &Block) -> Result<(), Fail
     Ok(())
 }
 
-/// Where memory is refused, a text is answered rightly or by Memory, and so is a copy.
+/// What blocks say, and what copies of them say.
+fn said_twice(alloc: Global, blocks: &[Block]) -> Result<(String, String), Fail> {
+    let mut found = String::new(alloc);
+    let mut copied = String::new(alloc);
+    for block in blocks {
+        push_block(&mut found, alloc, block)?;
+        let copy = block.copy(alloc)?;
+        push_block(&mut copied, alloc, &copy)?;
+    }
+    Ok((found, copied))
+}
+
 #[test]
 fn blocks_and_their_copies(rt: HostRuntime) -> Result<(), Fail> {
     for (text, want) in &BLOCKS {
-        match read_program(InstructionSet::Core, rt.alloc(), text.as_bytes()) {
-            Ok(program) => {
-                let mut found = String::new(rt.alloc());
-                let mut copied = String::new(rt.alloc());
-                for block in program.blocks() {
-                    push_block(&mut found, rt.alloc(), block)?;
-                    match block.copy(rt.alloc()) {
-                        Ok(copy) => push_block(&mut copied, rt.alloc(), &copy)?,
-                        Err(_) => push_block(&mut copied, rt.alloc(), block)?,
-                    }
-                }
-                equal_in(&rt, text, &found.as_str(), want);
-                equal_in(&rt, text, &copied.as_str(), want);
-                let count = program.blocks().len();
-                equal(&rt, &program.into_blocks().len(), &count);
-            }
-            Err(fault) => equal_in(&rt, text, &fault, &ReadFault::at(0, Cause::Memory)),
-        }
+        let program = read_program(InstructionSet::Core, rt.alloc(), text.as_bytes())?;
+        let (found, copied) = said_twice(rt.alloc(), program.blocks())?;
+        equal_in(&rt, text, &found.as_str(), want);
+        equal_in(&rt, text, &copied.as_str(), want);
+        let count = program.blocks().len();
+        equal(&rt, &program.into_blocks().len(), &count);
     }
     Ok(())
 }

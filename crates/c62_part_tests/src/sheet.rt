@@ -287,9 +287,9 @@ fn changes_one_by_one(rt: HostRuntime) -> Result<(), Fail> {
         assert!(rt; sheet.apply(&Entry::Withdraw(5 - last, Who::A)));
     }
     for i in 0..6 {
-        assert!(rt; i < sheet.plan().len() && i < fresh.plan().len());
         for cycle in 0..30 {
             for unit in Unit::ALL {
+                assert!(rt; i < sheet.plan().len() && i < fresh.plan().len());
                 let spot = Spot { cycle, unit };
                 equal_in(
                     &rt,
