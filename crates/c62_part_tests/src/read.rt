@@ -1,6 +1,6 @@
 //! Blocks that are read, their copies, and a text with each byte at each index.
 
-use crate::expect::{equal, equal_in};
+use crate::expect::equal_in;
 use c62_insn::Operands;
 use c62_line::{Cause, ReadFault};
 use c62_op::InstructionSet;
@@ -48,15 +48,20 @@ fn said_twice(alloc: Global, blocks: &[Block]) -> Result<(String, String), Fail>
     Ok((found, copied))
 }
 
+/// Whether the blocks of a text say this, and their copies too, and none is lost where they are taken.
+fn is_said(alloc: Global, text: &str, want: &str) -> Result<bool, Fail> {
+    let program = read_program(InstructionSet::Core, alloc, text.as_bytes())?;
+    let (found, copied) = said_twice(alloc, program.blocks())?;
+    let count = program.blocks().len();
+    let blocks = program.into_blocks();
+    Ok(found.as_str() == want && copied.as_str() == want && blocks.len() == count)
+}
+
 #[test]
 fn blocks_and_their_copies(rt: HostRuntime) -> Result<(), Fail> {
     for (text, want) in &BLOCKS {
-        let program = read_program(InstructionSet::Core, rt.alloc(), text.as_bytes())?;
-        let (found, copied) = said_twice(rt.alloc(), program.blocks())?;
-        equal_in(&rt, text, &found.as_str(), want);
-        equal_in(&rt, text, &copied.as_str(), want);
-        let count = program.blocks().len();
-        equal(&rt, &program.into_blocks().len(), &count);
+        let is_said = is_said(rt.alloc(), text, want)?;
+        equal_in(&rt, text, &is_said, &true);
     }
     Ok(())
 }
