@@ -5,7 +5,7 @@ use crate::expect::{equal, equal_in};
 use c62_insn::Letter::{D, L, M, S};
 use c62_insn::Side::{A, B};
 use c62_insn::Unit;
-use c62_sheet::{Counts, Entry, Sheet, Spot, Who, are_lawful};
+use c62_sheet::{Counts, Entry, Sheet, Spot, Unlawful, Who, are_lawful};
 use std::alloc::Global;
 use std::process::Abort;
 use std::test::Fail;
@@ -178,6 +178,12 @@ fn place(rt: &impl Abort, sheet: &mut Sheet, i: u16) {
     assert!(rt; sheet.apply(&Entry::Place(i, spot, Who::Tail)));
 }
 
+/// What is answered of a spot of an instruction that the plan has.
+fn answer(rt: &impl Abort, sheet: &Sheet, i: u16, spot: Spot) -> Result<(), Unlawful> {
+    assert!(rt; i < sheet.plan().len());
+    sheet.check(i, spot)
+}
+
 /// The spots of what is placed, and the length.
 fn placed(alloc: Global, sheet: &Sheet) -> Result<String, Fail> {
     let mut all = String::new(alloc);
@@ -289,14 +295,10 @@ fn changes_one_by_one(rt: HostRuntime) -> Result<(), Fail> {
     for i in 0..6 {
         for cycle in 0..30 {
             for unit in Unit::ALL {
-                assert!(rt; i < sheet.plan().len() && i < fresh.plan().len());
                 let spot = Spot { cycle, unit };
-                equal_in(
-                    &rt,
-                    &(i, cycle),
-                    &sheet.check(i, spot),
-                    &fresh.check(i, spot),
-                );
+                let found = answer(&rt, &sheet, i, spot);
+                let wanted = answer(&rt, &fresh, i, spot);
+                equal_in(&rt, &(i, cycle), &found, &wanted);
             }
         }
     }
