@@ -11,6 +11,6 @@ mod relined;
 mod seats;
 mod verdict;
 
-pub use lines::push_loop;
+pub use lines::{push_loop, push_register};
 pub use region::{counter_of, ends_with_branch};
 pub use verdict::{LoopVerdict, check_loop};

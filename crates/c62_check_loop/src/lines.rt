@@ -87,7 +87,11 @@ fn file_letter(side: Side) -> &'static [u8]
 }
 
 /// Adds a space and the name of a register.
-fn push_register(out: &mut Vec<u8>, reg: Reg) -> Result<(), AllocError>
+///
+/// # Errors
+///
+/// `AllocError` where memory ran out; the bytes are then unspecified.
+pub fn push_register(out: &mut Vec<u8>, reg: Reg) -> Result<(), AllocError>
     ensures { OnOk result (out.new.items ≡ out.old.items ++ (codes " " ++ register_name reg)) }
 {
     out.extend_from_slice(b" ")?;

@@ -1,9 +1,10 @@
 -- Where all is told to be the same, each block is done.
 use Rattle.std.proofs.Common.{arith, ◌≡◌, ℕ, zero, suc, ◌+◌, Bool, true, false, List, [], ◌∷◌, ◌++◌, length, Option}
 use Rattle.std.proofs.Common.{Some, None, refl, sym, ◌∙◌, ap, subst, inl, inr}
-use Rattle.std.specs.Prelude.{slice_get, ◌&&◌}
+use Rattle.std.specs.Prelude.{slice_get, ◌==◌, ◌&&◌}
 use Rattle.std.specs.List.{list_all}
 use Rattle.std.proofs.lemmas.Bool.{false≢true}
+use Rattle.std.proofs.lemmas.Bool.Decides.{nat_tests}
 use Rattle.std.proofs.lemmas.List.{append_assoc}
 use Rattle.std.proofs.lemmas.Option.{none-some, same_Some, slice_get_within}
 use Rattle.clap.proofs.WalkLemmas.{both}
@@ -29,7 +30,8 @@ use Rattle.c62_check_rest.proofs.Serials.{rest_is_serial, row_is}
 use Rattle.c62_check_loops.specs.declared.verdict.BlockVerdict.{BlockVerdict}
 use Rattle.c62_check_loops.specs.declared.verdict.BlockVerdict.TheVariants.{Loop, Within, Rest}
 use Rattle.c62_check_loops.specs.Fit.{are_fit, are_all_rows, block_behind, first_block, is_alone, is_fit, stands_there}
-use Rattle.c62_check_loops.specs.Lines.{label_in, insns_in, named_line, line_at, lines_from}
+use Rattle.c62_check_loops.specs.Lines.{label_in, insns_in, named_line, line_at, lines_from, loop_at, reading_lines}
+use Rattle.c62_check_loops.specs.Reading.{is_unread, readings_from}
 use Rattle.c62_check_loops.specs.Verdicts.{IsBlockTold, are_good, is_good, is_good_loop, is_plain}
 use Rattle.c62_check_loops.specs.Laws.{DoesTheLoop, HasLine, IsDone, IsLoopDone, LoopsDoTheSame, naming_of}
 use Rattle.c62_check_loops.proofs.Loops.{there_at}
@@ -80,21 +82,34 @@ line_more text line more (front, back, e) = (
       ∙ ap (λ (xs : List ℕ). front ++ xs) (append_assoc line back more),
 )
 
-module _ (promise : Promise) (region : Region) (packets : Text) (answer : List ℕ) (label : Name)
+nothing_in : {X : Type 0} (xs : List X) → (length xs == 0) ≡ true → xs ≡ []
+nothing_in [] none = refl
+nothing_in (x ∷ xs) none = absurd (grind (arith, nat_tests, none))
+
+-- a line that begins others
+line_front : (text line more : List ℕ) → HasLine text (line ++ more) → HasLine text line
+line_front text line more (front, back, e) = (
+  front,
+  more ++ back,
+  e ∙ ap (λ (xs : List ℕ). front ++ xs) (append_assoc line more back),
+)
+
+module _ (promise : Promise) (blocks : List Serial) (region : Region) (packets : Text) (answer : List ℕ) (label : Name)
     (insns : List SerialInsn) (least cycles first last : ℕ) where
   -- a loop that is the same is, whether the answer names registers or not
   done_same : (plain : Bool) → DoesTheSame (promises promise) region packets least cycles first last
-      → DoesTheLoop promise region packets (naming_of plain answer) label insns least cycles first last
+      → DoesTheLoop promise blocks region packets (naming_of plain answer) label insns least cycles first last
   done_same true does = does
   done_same false does = inl does
 
   -- one that is so but for registers is named
   done_but : (plain : Bool) (but : RegSet) → (plain ≡ true → false ≡ true)
       → HasLine answer (loop_line label insns (told.SameBut least cycles first last but))
+      → readings_from blocks (block_behind blocks region.number) but ≡ []
       → DoesTheSameBut (promises promise) region packets least cycles first last but
-      → DoesTheLoop promise region packets (naming_of plain answer) label insns least cycles first last
-  done_but true but plainly has does = absurd (false≢true (plainly refl))
-  done_but false but plainly has does = inr (but, has, does)
+      → DoesTheLoop promise blocks region packets (naming_of plain answer) label insns least cycles first last
+  done_but true but plainly has unread does = absurd (false≢true (plainly refl))
+  done_but false but plainly has unread does = inr (but, has, unread, does)
 
 module _ (trips : List (Name × ℕ)) (promise : Promise) (loops : List (Option LoopVerdict)) (starts : Starts)
     (blocks : List Serial) (packets : Text) (answer : List ℕ) (plain : Bool) (number : ℕ) (block : Serial) where
@@ -102,10 +117,11 @@ module _ (trips : List (Name × ℕ)) (promise : Promise) (loops : List (Option 
   loop_done : (label : Option Name) (verdict : LoopVerdict) → block.label ≡ label
       → HasLine answer (named_line number label block.insns verdict)
       → (plain ≡ true → is_plain (Loop verdict) ≡ true)
-      → is_good_loop trips label verdict ≡ true → is_fit blocks loops starts number (Loop verdict) ≡ true
+      → is_good_loop trips label verdict ≡ true → is_unread blocks number verdict ≡ true
+      → is_fit blocks loops starts number (Loop verdict) ≡ true
       → IsTold (promises promise) blocks number packets (Some verdict)
       → IsLoopDone trips promise starts blocks packets (naming_of plain answer) number block
-  loop_done (Some label) (told.Same least cycles first last) labelled has none good fit (region, found, same) =
+  loop_done (Some label) (told.Same least cycles first last) labelled has none good unread fit (region, found, same) =
       let parts = both (is_alone blocks starts number) (stands_there blocks starts number first last) fit in
       let rows = both (is_row (start_at starts (first_block blocks number)) first)
       (is_row (start_at starts (block_behind blocks number)) last) parts.1 in
@@ -119,13 +135,13 @@ module _ (trips : List (Name × ℕ)) (promise : Promise) (loops : List (Option 
         first = first;
         last = last;
         granted = good;
-        does = done_same promise region packets answer label block.insns least cycles first last plain
+        does = done_same promise blocks region packets answer label block.insns least cycles first last plain
             (same_is_serial (promises promise) region packets least cycles first last same);
         alone = parts.0;
         begins = row_is (start_at starts (first_block blocks number)) first rows.0;
         ends = row_is (start_at starts (block_behind blocks number)) last rows.1;
       }
-  loop_done (Some label) (told.SameBut least cycles first last but) labelled has none good fit (region, found, same) =
+  loop_done (Some label) (told.SameBut least cycles first last but) labelled has none good unread fit (region, found, same) =
       let parts = both (is_alone blocks starts number) (stands_there blocks starts number first last) fit in
       let rows = both (is_row (start_at starts (first_block blocks number)) first)
       (is_row (start_at starts (block_behind blocks number)) last) parts.1 in
@@ -139,28 +155,30 @@ module _ (trips : List (Name × ℕ)) (promise : Promise) (loops : List (Option 
         first = first;
         last = last;
         granted = good;
-        does = done_but promise region packets answer label block.insns least cycles first last plain but none has
+        does = done_but promise blocks region packets answer label block.insns least cycles first last plain but none has
+            (ap (λ (n : ℕ). readings_from blocks (block_behind blocks n) but) found.numbered
+            ∙ nothing_in (readings_from blocks (block_behind blocks number) but) unread)
             (same_but_is_serial (promises promise) region packets least cycles first last but same);
         alone = parts.0;
         begins = row_is (start_at starts (first_block blocks number)) first rows.0;
         ends = row_is (start_at starts (block_behind blocks number)) last rows.1;
       }
-  loop_done (Some label) (told.Missing line) labelled has none good fit is = absurd cc
-  loop_done (Some label) (told.Extra line) labelled has none good fit is = absurd cc
-  loop_done (Some label) (told.Uneven line) labelled has none good fit is = absurd cc
-  loop_done (Some label) (told.Counter line) labelled has none good fit is = absurd cc
-  loop_done (Some label) (told.Early early) labelled has none good fit is = absurd cc
-  loop_done (Some label) (told.Branch line) labelled has none good fit is = absurd cc
-  loop_done (Some label) told.Outside labelled has none good fit is = absurd cc
-  loop_done None (told.Same least cycles first last) labelled has none good fit is = absurd cc
-  loop_done None (told.SameBut least cycles first last but) labelled has none good fit is = absurd cc
-  loop_done None (told.Missing line) labelled has none good fit is = absurd cc
-  loop_done None (told.Extra line) labelled has none good fit is = absurd cc
-  loop_done None (told.Uneven line) labelled has none good fit is = absurd cc
-  loop_done None (told.Counter line) labelled has none good fit is = absurd cc
-  loop_done None (told.Early early) labelled has none good fit is = absurd cc
-  loop_done None (told.Branch line) labelled has none good fit is = absurd cc
-  loop_done None told.Outside labelled has none good fit is = absurd cc
+  loop_done (Some label) (told.Missing line) labelled has none good unread fit is = absurd cc
+  loop_done (Some label) (told.Extra line) labelled has none good unread fit is = absurd cc
+  loop_done (Some label) (told.Uneven line) labelled has none good unread fit is = absurd cc
+  loop_done (Some label) (told.Counter line) labelled has none good unread fit is = absurd cc
+  loop_done (Some label) (told.Early early) labelled has none good unread fit is = absurd cc
+  loop_done (Some label) (told.Branch line) labelled has none good unread fit is = absurd cc
+  loop_done (Some label) told.Outside labelled has none good unread fit is = absurd cc
+  loop_done None (told.Same least cycles first last) labelled has none good unread fit is = absurd cc
+  loop_done None (told.SameBut least cycles first last but) labelled has none good unread fit is = absurd cc
+  loop_done None (told.Missing line) labelled has none good unread fit is = absurd cc
+  loop_done None (told.Extra line) labelled has none good unread fit is = absurd cc
+  loop_done None (told.Uneven line) labelled has none good unread fit is = absurd cc
+  loop_done None (told.Counter line) labelled has none good unread fit is = absurd cc
+  loop_done None (told.Early early) labelled has none good unread fit is = absurd cc
+  loop_done None (told.Branch line) labelled has none good unread fit is = absurd cc
+  loop_done None told.Outside labelled has none good unread fit is = absurd cc
 
   block_done : (verdict : BlockVerdict) → slice_get blocks number ≡ Some block
       → HasLine answer (line_at blocks number verdict) → (plain ≡ true → is_plain verdict ≡ true)
@@ -170,12 +188,13 @@ module _ (trips : List (Name × ℕ)) (promise : Promise) (loops : List (Option 
   block_done Within there has bare good fit (none, with_loop) =
       inr (none, inl (record { with_loop = with_loop; entered = fit }))
   block_done (Loop verdict) there has bare good fit (one, is) =
-      inl (
+      let parts = both (is_good_loop trips (label_in (slice_get blocks number)) verdict) (is_unread blocks number verdict) good
+      in inl (
         one,
         loop_done block.label verdict refl
             (subst (λ (b : Option Serial). HasLine answer (named_line number (label_in b) (insns_in b) verdict)) there
-            has)
-            bare (subst (λ (b : Option Serial). is_good_loop trips (label_in b) verdict ≡ true) there good) fit is,
+            (line_front answer (loop_at blocks number verdict) (reading_lines blocks number verdict) has))
+            bare (subst (λ (b : Option Serial). is_good_loop trips (label_in b) verdict ≡ true) there parts.0) parts.1 fit is,
       )
   block_done (Rest verdict) there has bare good fit (none, (other, at, is)) =
       let same : other ≡ block = same_Some other block (sym at ∙ there) in

@@ -3,3 +3,4 @@ pub mod Taken
 pub mod Telling
 pub mod Done
 pub mod Granting
+pub mod Readers

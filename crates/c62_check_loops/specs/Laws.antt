@@ -1,5 +1,5 @@
 -- What follows where all of a text and packets is told to be the same (docs/CHECK.md, "All loops of a text").
-use Rattle.std.specs.Prelude.{◌≡◌, ℕ, Bool, true, false, List, ◌++◌, length, Option, Some, None, ◌⊎◌, slice_get}
+use Rattle.std.specs.Prelude.{◌≡◌, ℕ, Bool, true, false, List, [], ◌++◌, length, Option, Some, None, ◌⊎◌, slice_get}
 use Rattle.clap.specs.Words.{Text as Name}
 use Rattle.c62_op.specs.declared.register.Reg.{Reg}
 use Rattle.c62_pair.specs.declared.reg_set.RegSet.{RegSet}
@@ -20,6 +20,7 @@ use Rattle.c62_check_loops.specs.Covered.{is_told, is_told_with_loop}
 use Rattle.c62_check_loops.specs.Fit.{first_block, block_behind, is_alone, is_within}
 use Rattle.c62_check_loops.specs.Granted.{is_granted}
 use Rattle.c62_check_loops.specs.Promised.{IsPromiseOf}
+use Rattle.c62_check_loops.specs.Reading.{readings_from}
 use Rattle.c62_check_loops.specs.Told.{AreLoopsTold}
 
 -- the answer has this line
@@ -27,12 +28,13 @@ abbrev pub HasLine : List ℕ → List ℕ → Type 0
 HasLine answer line = (front : List ℕ) × (back : List ℕ) × (answer ≡ front ++ (line ++ back))
 
 -- The packets do what the loop of a label and a block does. Where an answer is given, they may do it but for registers, and faulted lines of loads
--- into them, that the answer names in the loop's line.
-abbrev pub DoesTheLoop : Promise → Region → Text → Option (List ℕ) → Name → List SerialInsn → (least cycles first last : ℕ) → Type 0
-DoesTheLoop promise region packets None label insns least cycles first last = DoesTheSame (promises promise) region packets least cycles first last
-DoesTheLoop promise region packets (Some answer) label insns least cycles first last =
+-- into them, that the answer names in the loop's line, and no line of the text may read these before another sets them.
+abbrev pub DoesTheLoop : Promise → List Serial → Region → Text → Option (List ℕ) → Name → List SerialInsn → (least cycles first last : ℕ) → Type 0
+DoesTheLoop promise blocks region packets None label insns least cycles first last = DoesTheSame (promises promise) region packets least cycles first last
+DoesTheLoop promise blocks region packets (Some answer) label insns least cycles first last =
     DoesTheSame (promises promise) region packets least cycles first last
     ⊎ ((but : RegSet) × HasLine answer (loop_line label insns (SameBut least cycles first last but))
+    × (readings_from blocks (block_behind blocks region.number) but ≡ [])
     × DoesTheSameBut (promises promise) region packets least cycles first last but)
 
 -- The block is a loop. Its label is promised as many trips as the packets need, and from as many on these do what it does, with the
@@ -48,7 +50,7 @@ pub record IsLoopDone (trips : List (Name × ℕ)) (promise : Promise) (starts :
   pub first : ℕ
   pub last : ℕ
   pub granted : is_granted trips label least ≡ true
-  pub does : DoesTheLoop promise region packets naming label block.insns least cycles first last
+  pub does : DoesTheLoop promise blocks region packets naming label block.insns least cycles first last
   pub alone : is_alone blocks starts number ≡ true
   pub begins : start_at starts (first_block blocks number) ≡ Some first
   pub ends : start_at starts (block_behind blocks number) ≡ Some last

@@ -5,5 +5,6 @@ pub mod Lines
 pub mod Verdicts
 pub mod Settled
 pub mod Fit
+pub mod Reading
 pub mod Told
 pub mod Laws

@@ -16,6 +16,7 @@ use Rattle.c62_check_loops.specs.declared.verdict.BlockVerdict.TheVariants.{Loop
 use Rattle.c62_check_loops.specs.Covered.{is_told, is_told_with_loop}
 use Rattle.c62_check_loops.specs.Granted.{is_granted}
 use Rattle.c62_check_loops.specs.Lines.{label_in}
+use Rattle.c62_check_loops.specs.Reading.{is_unread}
 
 -- what is told of a block as a loop holds, if anything is
 abbrev pub IsLoopTold : Promise → List Serial → Text → ℕ → Option LoopVerdict → Type 0
@@ -68,9 +69,10 @@ is_good_loop all (Some label) (Same trips cycles first last) = is_granted all la
 is_good_loop all (Some label) (SameBut trips cycles first last but) = is_granted all label trips
 is_good_loop all label verdict = false
 
--- the block of this number is the same, as a loop with those trips, or is told with a loop
+-- The block of this number is the same, as a loop with those trips of which nothing in the text reads what it leaves otherwise, or is told with a
+-- loop.
 abbrev pub is_good : List (Name × ℕ) → List Serial → ℕ → BlockVerdict → Bool
-is_good all blocks number (Loop verdict) = is_good_loop all (label_in (slice_get blocks number)) verdict
+is_good all blocks number (Loop verdict) = is_good_loop all (label_in (slice_get blocks number)) verdict && is_unread blocks number verdict
 is_good all blocks number Within = true
 is_good all blocks number (Rest verdict) = is_same_rest verdict
 

@@ -48,7 +48,7 @@ fn first_block(blocks: &[Block], number: u8) -> u8
 }
 
 /// The number of the block behind a loop's region.
-fn block_behind(blocks: &[Block], number: u8) -> u8
+pub(crate) fn block_behind(blocks: &[Block], number: u8) -> u8
     requires { number < 253 }
     ensures { result ≡ block_behind blocks.now number }
 {

@@ -7,11 +7,13 @@ mod granted;
 pub mod laws;
 mod lines;
 mod promised;
+mod reading;
 mod settled;
 mod told;
 mod verdict;
 
 pub use granted::{first_loopless, is_granted};
 pub use promised::promise_of;
+pub use reading::{Reading, readings_of};
 pub use told::{LoopsChecked, LoopsJudged, check_loops, judge_loops};
 pub use verdict::BlockVerdict;

@@ -26,7 +26,8 @@ pub struct LoopsChecked {
     /// The lines that tell it.
     pub text: Vec<u8>,
     /// Whether the packets do what the text does, as far as its loops are entered with the trips that are promised, and the rest of
-    /// what is promised holds, but for registers and faulted lines that a loop's line names.
+    /// what is promised holds, but for registers and faulted lines that a loop's line names. No line of the text may then read such a register
+    /// before another sets it.
     pub same: bool,
     /// Whether no loop is the same but for such.
     pub plain: bool,
@@ -63,6 +64,7 @@ impl Told {
     /// Adds what is told of the block of this number.
     fn add(
         &mut self,
+        alloc: Global,
         trips: &[Trips],
         blocks: &[Block],
         loops: &Loops,
@@ -70,7 +72,8 @@ impl Told {
         number: u8,
         verdict: BlockVerdict,
     ) -> Result<(), AllocError>
-        requires { number < 253 }
+        requires few { length blocks.now ≤ MOST_BLOCKS }
+        requires within { number < 253 }
         ensures verdicts { OnOk result (self.new.verdicts.items ≡ self.old.verdicts.items ++ verdict ∷ []) }
         ensures same { OnOk result (self.new.same ≡ (self.old.same && is_same verdict)) }
         ensures plain { OnOk result (self.new.plain ≡ (self.old.plain && is_plain verdict)) }
@@ -79,7 +82,8 @@ impl Told {
     {
         self.same = self.same && is_same(&verdict);
         self.plain = self.plain && is_plain(&verdict);
-        self.good = self.good && is_good(trips, blocks, number, &verdict);
+        let good = is_good(alloc, trips, blocks, number, &verdict)?;
+        self.good = self.good && good;
         self.fit = self.fit && is_fit(blocks, loops, starts, number, &verdict);
         self.verdicts.push(verdict)?;
         Ok(())
@@ -109,7 +113,7 @@ fn tell(
     };
     for number in 0..blocks.len() {
         let verdict = verdict_of(alloc, blocks, number as u8, loops, starts, read)?;
-        told.add(trips, blocks, loops, starts, number as u8, verdict)?;
+        told.add(alloc, trips, blocks, loops, starts, number as u8, verdict)?;
     }
     Ok(told)
 }
@@ -174,32 +178,35 @@ pub fn judge_loops(
 /// The lines of what is told of these blocks.
 fn push_blocks(
     out: &mut Vec<u8>,
+    alloc: Global,
     blocks: &[Block],
     verdicts: &[BlockVerdict],
 ) -> Result<(), AllocError>
-    requires { length verdicts.now ≤ MOST_BLOCKS }
+    requires blocks { length blocks.now ≤ MOST_BLOCKS }
+    requires verdicts { length verdicts.now ≤ MOST_BLOCKS }
     ensures { OnOk result (out.new.items ≡ out.old.items ++ lines_from blocks.now 0 verdicts.now) }
 {
     for number in 0..verdicts.len() {
-        push_line(out, blocks, number as u8, &verdicts[number])?;
+        push_line(out, alloc, blocks, number as u8, &verdicts[number])?;
     }
     Ok(())
 }
 
 /// The lines of what is found.
 fn lines_of(alloc: Global, blocks: &[Block], judged: &LoopsJudged) -> Result<Vec<u8>, AllocError>
-    requires { length judged.now.verdicts.items ≤ MOST_BLOCKS }
+    requires blocks { length blocks.now ≤ MOST_BLOCKS }
+    requires verdicts { length judged.now.verdicts.items ≤ MOST_BLOCKS }
     ensures { IfOk result (λ text. text.items ≡ lines_from blocks.now 0 judged.now.verdicts.items ++ rows_line judged.now.wanting) }
 {
     let mut text = Vec::new(alloc);
-    push_blocks(&mut text, blocks, &judged.verdicts)?;
+    push_blocks(&mut text, alloc, blocks, &judged.verdicts)?;
     push_rows(&mut text, judged.wanting)?;
     Ok(text)
 }
 
 /// What is found of the blocks of a program and packets that pipeline its loops, as [`judge_loops`] finds it, with the lines of `docs/CHECK.md`.
 /// Each loop under a counter has a line, and each other block that doesn't belong to a loop has those that `c62_check` tells of it. Of a loop
-/// that is the same but for registers its line names these.
+/// that is the same but for registers its line names these, and a line for each of them that the text may read says where.
 ///
 /// # Errors
 ///

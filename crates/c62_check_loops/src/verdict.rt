@@ -7,10 +7,12 @@ ghost use Rattle.c62_read.specs.declared.limits.TheConstants.{MOST_BLOCKS};
 ghost use Rattle.c62_command.specs.Promises.{trips_of};
 ghost use Rattle.c62_check_loops.specs.Lines.{label_in};
 ghost use Rattle.c62_check_loops.specs.Covered.{is_told, loop_in};
+ghost use Rattle.c62_check_loops.specs.Reading.{is_unread};
 ghost use Rattle.c62_check_loops.specs.Verdicts.{AreLoopVerdicts, AreLoopsOf, IsBlockTold, is_good, is_good_loop, is_plain, is_same};
 
 use crate::covered::is_told_with_loop;
 use crate::granted::is_granted;
+use crate::reading::readings_of;
 use c62_check_loop::{LoopVerdict, check_loop};
 use c62_check_rest::{RestVerdict, check_rest};
 use c62_command::Trips;
@@ -89,14 +91,41 @@ pub(crate) fn is_good_at(
     }
 }
 
-/// Whether the block of this number is the same, as a loop with the trips that are promised, or is told with a loop.
-pub(crate) fn is_good(trips: &[Trips], blocks: &[Block], number: u8, verdict: &BlockVerdict) -> bool
-    ensures { result ≡ is_good (map trips_of trips.now) blocks.now number verdict.now }
+/// Whether no line of the text may read what the loop of the block of this number leaves otherwise.
+fn is_unread(
+    alloc: Global,
+    blocks: &[Block],
+    number: u8,
+    verdict: LoopVerdict,
+) -> Result<bool, AllocError>
+    requires few { length blocks.now ≤ MOST_BLOCKS }
+    requires within { number < 253 }
+    ensures { IfOk result (λ unread. unread ≡ is_unread blocks.now number verdict) }
+{
+    let readings = readings_of(alloc, blocks, number, verdict)?;
+    Ok(readings.is_empty())
+}
+
+/// Whether the block of this number is the same, as a loop with the trips that are promised of which no line of the text reads what it leaves
+/// otherwise, or is told with a loop.
+pub(crate) fn is_good(
+    alloc: Global,
+    trips: &[Trips],
+    blocks: &[Block],
+    number: u8,
+    verdict: &BlockVerdict,
+) -> Result<bool, AllocError>
+    requires few { length blocks.now ≤ MOST_BLOCKS }
+    requires within { number < 253 }
+    ensures { IfOk result (λ good. good ≡ is_good (map trips_of trips.now) blocks.now number verdict.now) }
 {
     match verdict {
-        BlockVerdict::Loop(verdict) => is_good_at(trips, blocks, number, *verdict),
-        BlockVerdict::Within => true,
-        BlockVerdict::Rest(verdict) => verdict.is_same(),
+        BlockVerdict::Loop(verdict) => {
+            let unread = is_unread(alloc, blocks, number, *verdict)?;
+            Ok(is_good_at(trips, blocks, number, *verdict) && unread)
+        }
+        BlockVerdict::Within => Ok(true),
+        BlockVerdict::Rest(verdict) => Ok(verdict.is_same()),
     }
 }
 

@@ -13,18 +13,21 @@ use Rattle.c62_check_loops.specs.declared.told.LoopsJudged.{LoopsJudged}
 use Rattle.c62_check_loops.specs.declared.verdict.BlockVerdict.{BlockVerdict}
 use Rattle.c62_check_loops.specs.declared.verdict.BlockVerdict.TheVariants.{Loop, Within, Rest}
 use Rattle.c62_check_loops.specs.Lines.{insns_in, label_in, lines_from, rows_line}
+use Rattle.c62_check_loops.specs.Reading.{readings_of}
+use Rattle.c62_check_loops.specs.declared.reading.Reading.{Reading}
 use Rattle.c62_check_loops.specs.Told.{AreLoopsJudged, AreLoopsTold}
 use Rattle.c62_json_loops.specs.Loops.{loop_object}
 use Rattle.c62_json_loops.specs.Rest.{rest_object}
 
 -- the object of a loop stands under its label
-abbrev pub named_loop : Option (List ℕ) → List SerialInsn → LoopVerdict → List Token
-named_loop None insns verdict = []
-named_loop (Some label) insns verdict = loop_object label insns verdict
+abbrev pub named_loop : Option (List ℕ) → List SerialInsn → LoopVerdict → List Reading → List Token
+named_loop None insns verdict readings = []
+named_loop (Some label) insns verdict readings = loop_object label insns verdict readings
 
 -- what is told of the block of this number as a loop
 abbrev pub loop_at : List Serial → ℕ → BlockVerdict → List Token
-loop_at blocks number (Loop verdict) = named_loop (label_in (slice_get blocks number)) (insns_in (slice_get blocks number)) verdict
+loop_at blocks number (Loop verdict) =
+    named_loop (label_in (slice_get blocks number)) (insns_in (slice_get blocks number)) verdict (readings_of blocks number verdict)
 loop_at blocks number verdict = []
 
 -- of a loop without a label nothing is known

@@ -6,12 +6,13 @@ use Rattle.json.specs.Token.{Token, key, null, number, string}
 use Rattle.c62_json.specs.Document.{array, count, object, text}
 use Rattle.c62_op.specs.declared.register.Side.{Side}
 use Rattle.c62_op.specs.declared.register.Side.TheVariants.{A, B}
-use Rattle.c62_op.specs.Name.{file_letter}
+use Rattle.c62_op.specs.Name.{file_letter, register_name}
 use Rattle.c62_pair.specs.declared.reg_set.RegSet.{RegSet}
 use Rattle.c62_read.specs.declared.block.SerialInsn.{SerialInsn}
 use Rattle.c62_loop_match.specs.declared.early.Early.{Early as EarlyRead}
 use Rattle.c62_check_loop.specs.Laws.{may_fault}
 use Rattle.c62_check_loop.specs.Lines.{number_in}
+use Rattle.c62_check_loops.specs.declared.reading.Reading.{Reading}
 use Rattle.c62_check_loop.specs.declared.verdict.LoopVerdict.{LoopVerdict}
 use Rattle.c62_check_loop.specs.declared.verdict.LoopVerdict.TheVariants.{Same, SameBut, Missing, Extra, Uneven, Counter, Early, Branch, Outside}
 
@@ -84,10 +85,20 @@ registers_member but = key (codes "registers") ∷ array (register_values but)
 unfoldable pub faults_member : RegSet → List SerialInsn → List Token
 faults_member but block = key (codes "faults") ∷ array (flat_map (fault_value but) block)
 
--- these registers, and the lines of the loads of the block into them
-unfoldable pub but_value : Option RegSet → List SerialInsn → List Token
-but_value None block = null ∷ []
-but_value (Some but) block = object (registers_member but ++ faults_member but block)
+-- a register, and the line that may read it
+unfoldable pub reading_members : Reading → List Token
+reading_members reading = key (codes "register") ∷ text (register_name reading.reg) ∷ key (codes "line") ∷ count reading.line ∷ []
+
+abbrev pub reading_object : Reading → List Token
+reading_object reading = object (reading_members reading)
+
+unfoldable pub reads_member : List Reading → List Token
+reads_member readings = key (codes "reads") ∷ array (flat_map reading_object readings)
+
+-- these registers, the lines of the loads of the block into them, and what of the text may read them
+unfoldable pub but_value : Option RegSet → List SerialInsn → List Reading → List Token
+but_value None block readings = null ∷ []
+but_value (Some but) block readings = object (registers_member but ++ faults_member but block ++ reads_member readings)
 
 -- which lines the instance that comes too early and the other have, by how many cycles it must come behind, and does
 unfoldable pub early_lines : EarlyRead → List Token
@@ -116,14 +127,14 @@ unfoldable pub trip_members : LoopVerdict → List Token
 trip_members verdict =
     key (codes "trips") ∷ number_value (trips_of verdict) ∷ key (codes "cycles") ∷ number_value (cycles_of verdict) ∷ []
 
-unfoldable pub reason_members : List SerialInsn → LoopVerdict → List Token
-reason_members block verdict =
-    (key (codes "but") ∷ but_value (but_of verdict) block) ++ (key (codes "line") ∷ number_value (line_of verdict) ∷ [])
+unfoldable pub reason_members : List SerialInsn → LoopVerdict → List Reading → List Token
+reason_members block verdict readings =
+    (key (codes "but") ∷ but_value (but_of verdict) block readings) ++ (key (codes "line") ∷ number_value (line_of verdict) ∷ [])
     ++ (key (codes "early") ∷ early_value (early_of verdict))
 
-unfoldable pub loop_members : (label : List ℕ) → List SerialInsn → LoopVerdict → List Token
-loop_members label block verdict = word_members label verdict ++ trip_members verdict ++ reason_members block verdict
+unfoldable pub loop_members : (label : List ℕ) → List SerialInsn → LoopVerdict → List Reading → List Token
+loop_members label block verdict readings = word_members label verdict ++ trip_members verdict ++ reason_members block verdict readings
 
--- the object of the loop of a label, which has this block
-abbrev pub loop_object : (label : List ℕ) → List SerialInsn → LoopVerdict → List Token
-loop_object label block verdict = object (loop_members label block verdict)
+-- the object of the loop of a label, which has this block, where so much may read what it leaves otherwise
+abbrev pub loop_object : (label : List ℕ) → List SerialInsn → LoopVerdict → List Reading → List Token
+loop_object label block verdict readings = object (loop_members label block verdict readings)

@@ -7,8 +7,10 @@ ghost use Rattle.c62_json.specs.Document.{Adds, array, object, text};
 ghost use Rattle.c62_op.specs.Name.{file_letter, register_name};
 ghost use Rattle.c62_insn.specs.Insn.{operands_of};
 ghost use Rattle.c62_check_loop.specs.Laws.{loads_into, may_fault};
-ghost use Rattle.c62_json_loops.specs.Loops.{but_value, fault_value, faults_member, file_values, name_value, register_values, registers_member};
+ghost use Rattle.c62_json_loops.specs.Loops.{but_value, fault_value, faults_member, file_values, name_value, reading_members, reading_object, reads_member, register_values, registers_member};
 
+use crate::member::push_number;
+use c62_check_loops::Reading;
 use c62_insn::{Insn, Operands, Reg, Side};
 use c62_json::{push_count, push_missing, push_name, push_text};
 use c62_pair::RegSet;
@@ -142,17 +144,68 @@ fn push_faults(out: &mut Writer, but: RegSet, block: &[SerialInsn]) -> Result<()
     out.end_array()
 }
 
+/// The name of a register, as a member.
+fn push_reg(alloc: Global, out: &mut Writer, reg: Reg) -> Result<(), AllocError>
+    ensures { Adds result out.old out.new (key (codes "register") ∷ text (register_name reg) ∷ []) }
+{
+    push_name(out, "register")?;
+    push_register(alloc, out, reg)
+}
+
+/// A register, and the line that may read it.
+#[tactic(auto, unfolding(crate::specs::Loops::reading_members))]
+fn push_members(alloc: Global, out: &mut Writer, reading: Reading) -> Result<(), AllocError>
+    ensures { Adds result out.old out.new (reading_members reading) }
+{
+    push_reg(alloc, out, reading.reg)?;
+    push_number(out, "line", u64::from(reading.line))
+}
+
+fn push_reading(alloc: Global, out: &mut Writer, reading: Reading) -> Result<(), AllocError>
+    ensures { Adds result out.old out.new (reading_object reading) }
+{
+    out.begin_object()?;
+    push_members(alloc, out, reading)?;
+    out.end_object()
+}
+
+fn push_each_reading(
+    alloc: Global,
+    out: &mut Writer,
+    readings: &[Reading],
+) -> Result<(), AllocError>
+    ensures { Adds result out.old out.new (flat_map reading_object readings.now) }
+{
+    for reading in readings {
+        push_reading(alloc, out, *reading)?;
+    }
+    Ok(())
+}
+
+/// What may read these registers, as a member.
+#[tactic(auto, unfolding(crate::specs::Loops::reads_member))]
+fn push_reads(alloc: Global, out: &mut Writer, readings: &[Reading]) -> Result<(), AllocError>
+    ensures { Adds result out.old out.new (reads_member readings.now) }
+{
+    out.key("reads")?;
+    out.begin_array()?;
+    push_each_reading(alloc, out, readings)?;
+    out.end_array()
+}
+
 fn push_object(
     alloc: Global,
     out: &mut Writer,
     but: RegSet,
     block: &[SerialInsn],
+    readings: &[Reading],
 ) -> Result<(), AllocError>
-    ensures { Adds result out.old out.new (object (registers_member but ++ faults_member but block.now)) }
+    ensures { Adds result out.old out.new (object (registers_member but ++ faults_member but block.now ++ reads_member readings.now)) }
 {
     out.begin_object()?;
     push_registers(alloc, out, but)?;
     push_faults(out, but, block)?;
+    push_reads(alloc, out, readings)?;
     out.end_object()
 }
 
@@ -163,12 +216,13 @@ pub(crate) fn push_but(
     out: &mut Writer,
     but: Option<RegSet>,
     block: &[SerialInsn],
+    readings: &[Reading],
 ) -> Result<(), AllocError>
-    ensures { Adds result out.old out.new (key (codes "but") ∷ but_value but block.now) }
+    ensures { Adds result out.old out.new (key (codes "but") ∷ but_value but block.now readings.now) }
 {
     out.key("but")?;
     match but {
-        Some(but) => push_object(alloc, out, but, block),
+        Some(but) => push_object(alloc, out, but, block, readings),
         None => push_missing(out),
     }
 }

@@ -1,6 +1,6 @@
 //! The document of `check --loops`.
 
-ghost use Rattle.std.specs.Prelude.{◌≡◌, ◌≤◌, [], ◌∷◌, ◌++◌, codes, length, map, not, slice_get, IfOk};
+ghost use Rattle.std.specs.Prelude.{◌≡◌, ◌≤◌, ◌<◌, [], ◌∷◌, ◌++◌, codes, length, map, not, slice_get, IfOk};
 ghost use Rattle.std.specs.Option.{option_copied};
 ghost use Rattle.json.specs.Token.{boolean, key};
 ghost use Rattle.c62_json.specs.Document.{Adds, document};
@@ -13,7 +13,7 @@ ghost use Rattle.c62_json_loops.specs.Judged.{IsLoopsDocument, judged_members, l
 use crate::looped::push_loop;
 use crate::rest::push_rest;
 use c62_check_loop::LoopVerdict;
-use c62_check_loops::{BlockVerdict, LoopsJudged, judge_loops};
+use c62_check_loops::{BlockVerdict, LoopsJudged, Reading, judge_loops, readings_of};
 use c62_check_rest::RestVerdict;
 use c62_command::Promises;
 use c62_json::{begin, end, push_flag};
@@ -40,11 +40,12 @@ fn push_labelled(
     label: Option<&Label>,
     insns: &[SerialInsn],
     verdict: LoopVerdict,
+    readings: &[Reading],
 ) -> Result<(), AllocError>
-    ensures { Adds result out.old out.new (named_loop (option_copied label.entry) insns.now verdict) }
+    ensures { Adds result out.old out.new (named_loop (option_copied label.entry) insns.now verdict readings.now) }
 {
     match label {
-        Some(label) => push_loop(alloc, out, label, insns, verdict),
+        Some(label) => push_loop(alloc, out, label, insns, verdict, readings),
         None => Ok(()),
     }
 }
@@ -55,11 +56,12 @@ fn push_named(
     out: &mut Writer,
     block: Option<&Block>,
     verdict: LoopVerdict,
+    readings: &[Reading],
 ) -> Result<(), AllocError>
-    ensures { Adds result out.old out.new (named_loop (label_in (option_copied block.entry)) (insns_in (option_copied block.entry)) verdict) }
+    ensures { Adds result out.old out.new (named_loop (label_in (option_copied block.entry)) (insns_in (option_copied block.entry)) verdict readings.now) }
 {
     match block {
-        Some(block) => push_labelled(alloc, out, block.label(), block.insns(), verdict),
+        Some(block) => push_labelled(alloc, out, block.label(), block.insns(), verdict, readings),
         None => Ok(()),
     }
 }
@@ -72,15 +74,21 @@ fn push_loop_at(
     number: u8,
     verdict: &BlockVerdict,
 ) -> Result<(), AllocError>
+    requires few { length blocks.now ≤ MOST_BLOCKS }
+    requires within { number < 253 }
     ensures { Adds result out.old out.new (loop_at blocks.now number verdict.now) }
 {
     match verdict {
-        BlockVerdict::Loop(verdict) => push_named(
-            alloc,
-            out,
-            blocks.get(usize::from(number)),
-            *verdict,
-        ),
+        BlockVerdict::Loop(verdict) => {
+            let readings = readings_of(alloc, blocks, number, *verdict)?;
+            push_named(
+                alloc,
+                out,
+                blocks.get(usize::from(number)),
+                *verdict,
+                &readings,
+            )
+        }
         BlockVerdict::Within => Ok(()),
         BlockVerdict::Rest(_) => Ok(()),
     }
@@ -140,7 +148,8 @@ fn push_each_loop(
     blocks: &[Block],
     verdicts: &[BlockVerdict],
 ) -> Result<(), AllocError>
-    requires { length verdicts.now ≤ MOST_BLOCKS }
+    requires blocks { length blocks.now ≤ MOST_BLOCKS }
+    requires verdicts { length verdicts.now ≤ MOST_BLOCKS }
     ensures { Adds result out.old out.new (loops_from blocks.now 0 verdicts.now) }
 {
     for number in 0..verdicts.len() {
@@ -173,7 +182,8 @@ fn push_loops(
     blocks: &[Block],
     verdicts: &[BlockVerdict],
 ) -> Result<(), AllocError>
-    requires { length verdicts.now ≤ MOST_BLOCKS }
+    requires blocks { length blocks.now ≤ MOST_BLOCKS }
+    requires verdicts { length verdicts.now ≤ MOST_BLOCKS }
     ensures { Adds result out.old out.new (loops_member blocks.now verdicts.now) }
 {
     out.key("loops")?;
@@ -215,7 +225,8 @@ fn push_judged(
     blocks: &[Block],
     judged: &LoopsJudged,
 ) -> Result<(), AllocError>
-    requires { length judged.now.verdicts.items ≤ MOST_BLOCKS }
+    requires blocks { length blocks.now ≤ MOST_BLOCKS }
+    requires verdicts { length judged.now.verdicts.items ≤ MOST_BLOCKS }
     ensures { Adds result out.old out.new (judged_members blocks.now judged.now) }
 {
     push_fact(out, "same", judged.same)?;
@@ -226,7 +237,8 @@ fn push_judged(
 
 /// The text of the document.
 fn judged_text(alloc: Global, blocks: &[Block], judged: &LoopsJudged) -> Result<Vec<u8>, AllocError>
-    requires { length judged.now.verdicts.items ≤ MOST_BLOCKS }
+    requires blocks { length blocks.now ≤ MOST_BLOCKS }
+    requires verdicts { length judged.now.verdicts.items ≤ MOST_BLOCKS }
     ensures { IfOk result (λ text. text.items ≡ document (codes "check") (judged_members blocks.now judged.now)) }
 {
     let mut out = begin(alloc, "check")?;

@@ -10,6 +10,7 @@ use crate::early::push_early;
 use crate::member::push_maybe;
 use crate::verdict::{but_of, cycles_of, early_of, line_of, trips_of, word_of};
 use c62_check_loop::LoopVerdict;
+use c62_check_loops::Reading;
 use c62_json::push_text;
 use c62_line::Label;
 use c62_read::SerialInsn;
@@ -62,10 +63,11 @@ fn push_reason(
     out: &mut Writer,
     block: &[SerialInsn],
     verdict: LoopVerdict,
+    readings: &[Reading],
 ) -> Result<(), AllocError>
-    ensures { Adds result out.old out.new (reason_members block.now verdict) }
+    ensures { Adds result out.old out.new (reason_members block.now verdict readings.now) }
 {
-    push_but(alloc, out, but_of(verdict), block)?;
+    push_but(alloc, out, but_of(verdict), block, readings)?;
     push_maybe(out, "line", line_of(verdict))?;
     push_early(out, early_of(verdict))
 }
@@ -77,15 +79,16 @@ fn push_members(
     label: &Label,
     block: &[SerialInsn],
     verdict: LoopVerdict,
+    readings: &[Reading],
 ) -> Result<(), AllocError>
-    ensures { Adds result out.old out.new (loop_members label.now block.now verdict) }
+    ensures { Adds result out.old out.new (loop_members label.now block.now verdict readings.now) }
 {
     push_word(alloc, out, label, verdict)?;
     push_trips(out, verdict)?;
-    push_reason(alloc, out, block, verdict)
+    push_reason(alloc, out, block, verdict, readings)
 }
 
-/// Writes the object of the loop of a label, whose block this is.
+/// Writes the object of the loop of a label, whose block this is, where so much may read what it leaves otherwise.
 ///
 /// # Errors
 ///
@@ -96,10 +99,11 @@ pub fn push_loop(
     label: &Label,
     block: &[SerialInsn],
     verdict: LoopVerdict,
+    readings: &[Reading],
 ) -> Result<(), AllocError>
-    ensures { Adds result out.old out.new (loop_object label.now block.now verdict) }
+    ensures { Adds result out.old out.new (loop_object label.now block.now verdict readings.now) }
 {
     out.begin_object()?;
-    push_members(alloc, out, label, block, verdict)?;
+    push_members(alloc, out, label, block, verdict, readings)?;
     out.end_object()
 }
