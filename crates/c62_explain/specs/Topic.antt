@@ -16,7 +16,7 @@ abbrev pub example : Cause → List ℕ
 example ParallelBar = codes "|| ADD A1,A2,A3"
 example BadLabel = codes "A1: MVK 1,A2"
 example Directive = codes ".text"
-example UnknownMnemonic = codes "SADD A1,A2,A3"
+example UnknownMnemonic = codes "MVC CSR,B0"
 example BadUnit = codes "MVK .M1 1,A1"
 example BadOperand = codes "MVK 1,A16"
 example (Form BadCondition) = codes "[A3] MVK 1,A1"

@@ -4,7 +4,7 @@ ghost use Rattle.std.specs.Prelude.{◌≡◌, ◌++◌, map, IfOk, OnOk};
 ghost use Rattle.std.specs.List.{flat_map};
 ghost use Rattle.c62_explain.specs.Picture.{AddsHelp, IsHelp, hint};
 
-use crate::names::{is_left_out, is_of_others, nearest_mnemonic};
+use crate::names::{is_left_out, is_of_full_set, is_of_others, nearest_mnemonic};
 use crate::near::is_near;
 use crate::operands::{push_forms, push_letters, push_range, push_sides};
 use crate::picture::{push_margin, push_number};
@@ -87,6 +87,19 @@ fn begins_with_mnemonic(isa: InstructionSet, rest: Tokens<'_>) -> bool {
     first_mnemonic(isa, rest).is_some()
 }
 
+/// What is told of the name of an instruction that the set lacks.
+fn instruction_help(word: &[u8]) -> Option<&'static [u8]> {
+    if is_of_full_set(word) {
+        Some(b" is an instruction of the full set: write `--isa full`")
+    } else if is_left_out(word) {
+        Some(b" is an instruction of the C62x that c62 leaves out (docs/MACHINE.md)")
+    } else if is_of_others(word) {
+        Some(b" is an instruction of the C64x or the C67x")
+    } else {
+        None
+    }
+}
+
 /// Help for a word that is no mnemonic.
 #[tactic(auto, using(crate::proofs::HintLemmas::adds_none, crate::proofs::HintLemmas::adds_behind_on))]
 fn push_mnemonic_help(
@@ -100,17 +113,8 @@ fn push_mnemonic_help(
     if word.is_empty() {
         return Ok(());
     }
-    if is_left_out(word) {
-        return at.push(
-            out,
-            &[
-                word,
-                b" is an instruction of the C62x that c62 leaves out (docs/MACHINE.md)",
-            ],
-        );
-    }
-    if is_of_others(word) {
-        return at.push(out, &[word, b" is an instruction of the C64x or the C67x"]);
+    if let Some(says) = instruction_help(word) {
+        return at.push(out, &[word, says]);
     }
     if begins_with(b'#', word) || begins_with(b'/', word) || begins_with(b'*', word) {
         return at.push(

@@ -6,12 +6,7 @@ use c62_op::InstructionSet;
 use c62_token::number::spells;
 
 /// Instructions of the C62x that are left out (docs/MACHINE.md, "What is left out").
-static LEFT_OUT: [&[u8]; 31] = [
-    b"ADDU", b"SUBU", b"LMBD", b"NORM", b"SUBC", b"SET", b"CLR", b"SUBAB", b"SUBAH", b"SUBAW",
-    b"SADD", b"SSUB", b"SSHL", b"SAT", b"SMPY", b"SMPYH", b"SMPYHL", b"SMPYLH", b"MPYHLU",
-    b"MPYLHU", b"MPYHUS", b"MPYHSU", b"MPYHULS", b"MPYHSLU", b"MPYLUHS", b"MPYLSHU", b"MPYSULH",
-    b"IDLE", b"MVC", b"IRP", b"NRP",
-];
+static LEFT_OUT: [&[u8]; 7] = [b"ADDU", b"SUBU", b"SAT", b"IDLE", b"MVC", b"IRP", b"NRP"];
 
 /// Instructions of the C64x and the C67x that people try.
 static OF_OTHERS: [&[u8]; 26] = [
@@ -28,6 +23,12 @@ const LEAST_WORD: usize = 2;
 
 fn is_among(names: &[&[u8]], word: &[u8]) -> bool {
     names.iter().any(|name| spells(name, word))
+}
+
+/// Whether the full set alone has an operation of this name.
+pub(crate) fn is_of_full_set(word: &[u8]) -> bool {
+    Op::ALL.iter().any(|op| !op.is_in(InstructionSet::Core)
+        && spells(op.mnemonic().as_bytes(), word))
 }
 
 /// Whether the C62x has an instruction of this name that is left out.

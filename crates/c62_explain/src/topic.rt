@@ -42,7 +42,7 @@ fn example(cause: Cause) -> &'static [u8]
         Cause::ParallelBar => b"|| ADD A1,A2,A3",
         Cause::BadLabel => b"A1: MVK 1,A2",
         Cause::Directive => b".text",
-        Cause::UnknownMnemonic => b"SADD A1,A2,A3",
+        Cause::UnknownMnemonic => b"MVC CSR,B0",
         Cause::BadUnit => b"MVK .M1 1,A1",
         Cause::BadOperand => b"MVK 1,A16",
         Cause::Form(FormFault::BadCondition) => b"[A3] MVK 1,A1",
