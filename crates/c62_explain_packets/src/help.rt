@@ -190,14 +190,84 @@ fn block_end(cut: &Cut, start: u32) -> u32 {
     cut.cycles
 }
 
-/// How many cycles an instruction lacks until all that it does has landed.
-fn cycles_missing(cut: &Cut, draft: &Draft, issue: &Issue) -> u32 {
-    let landed = issue
+/// The cycle in which all that an instruction does has landed, counted from the beginning of its block.
+fn landed(issue: &Issue) -> u32 {
+    issue
         .cycle
         .saturating_add(u32::from(issue.insn.delay()))
-        .saturating_add(1);
+        .saturating_add(1)
+}
+
+/// The first branch of a block.
+fn first_branch(draft: &Draft) -> Option<&Issue> {
+    for issue in draft.issues.as_slice() {
+        if issue.insn.op().is_branch() {
+            return Some(issue);
+        }
+    }
+    None
+}
+
+/// How many cycles are missing below a block until an instruction has landed.
+fn cycles_missing(cut: &Cut, draft: &Draft, issue: &Issue) -> u32 {
     let over = block_end(cut, draft.start).saturating_sub(draft.start);
-    landed.saturating_sub(over)
+    landed(issue).saturating_sub(over)
+}
+
+/// What runs code that no listing holds.
+#[tactic(auto, using(c62_explain::proofs::HintLemmas::adds_none))]
+fn push_flight(out: &mut Vec<u8>, number: u32) -> Result<(), AllocError>
+    ensures { OnOk result (AddsHelp number out.old.items out.new.items) }
+{
+    push_one(
+        out,
+        number,
+        &[
+            b"`exec` runs code with all of this in flight, and `check --loops` holds it against serial loops",
+        ],
+    )
+}
+
+/// The cycles that an instruction of a block with this branch lacks: NOPs give them, or it lands behind the branch.
+#[tactic(auto, using(c62_explain::proofs::HintLemmas::adds_none))]
+fn push_branched(
+    out: &mut Vec<u8>,
+    number: u32,
+    issue: &Issue,
+    branch: &Issue,
+    missing: u32,
+) -> Result<(), AllocError>
+    ensures { OnOk result (AddsHelp number out.old.items out.new.items) }
+{
+    let mut buffer = Buffer::new();
+    let mut line = Buffer::new();
+    let behind = landed(issue).saturating_sub(landed(branch));
+    if behind == 0 {
+        let cycles = buffer.format(missing).as_bytes();
+        push_one(
+            out,
+            number,
+            &[
+                b"cycles that are missing before the block is over: ",
+                cycles,
+                b"; write NOP ",
+                cycles,
+                b", as `adopt --drain` adds none behind a branch",
+            ],
+        )
+    } else {
+        push_one(
+            out,
+            number,
+            &[
+                b"cycles by which it lands behind the branch of line ",
+                line.format(branch.line).as_bytes(),
+                b": ",
+                buffer.format(behind).as_bytes(),
+                b"; issue it earlier, or the branch later",
+            ],
+        )
+    }
 }
 
 #[tactic(auto, using(c62_explain::proofs::HintLemmas::adds_none))]
@@ -207,14 +277,20 @@ fn push_missing(out: &mut Vec<u8>, number: u32, cut: &Cut) -> Result<(), AllocEr
     let Some((draft, issue)) = issue_at(&cut.drafts, number) else {
         return Ok(());
     };
-    let mut buffer = Buffer::new();
     let missing = cycles_missing(cut, draft, issue);
-    let words: &[&[u8]] = &[
-        b"cycles that are missing before the block is over: ",
-        buffer.format(missing).as_bytes(),
-        b"; `adopt --drain` adds them",
-    ];
-    push_one(out, number, words)
+    if let Some(branch) = first_branch(draft) {
+        return push_branched(out, number, issue, branch, missing);
+    }
+    let mut buffer = Buffer::new();
+    push_one(
+        out,
+        number,
+        &[
+            b"cycles that are missing before the block is over: ",
+            buffer.format(missing).as_bytes(),
+            b"; `adopt --drain` adds them",
+        ],
+    )
 }
 
 /// The next branch of the block.
@@ -265,7 +341,7 @@ fn push_read_help(
 }
 
 /// Lines of help for a fault of packets; `cut` has the blocks of the text's code.
-#[tactic(auto, using(c62_explain::proofs::HintLemmas::adds_none))]
+#[tactic(auto, using(c62_explain::proofs::HintLemmas::adds_none, c62_explain::proofs::HintLemmas::adds_behind_on))]
 pub(crate) fn push_help(
     isa: InstructionSet,
     out: &mut Vec<u8>,
@@ -290,8 +366,14 @@ pub(crate) fn push_help(
             place,
         ),
         What::Rule(rule) => push_breach(out, alloc, text, number, rule, cut),
-        What::NotDrained => push_missing(out, number, cut),
-        What::TwoBranches => push_branch(out, text, number, cut),
+        What::NotDrained => {
+            push_missing(out, number, cut)?;
+            push_flight(out, number)
+        }
+        What::TwoBranches => {
+            push_branch(out, text, number, cut)?;
+            push_flight(out, number)
+        }
         What::Code(CodeCause::Directive) => {
             push_one(
                 out,
