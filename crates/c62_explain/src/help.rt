@@ -4,6 +4,7 @@ ghost use Rattle.std.specs.Prelude.{◌≡◌, ◌++◌, map, IfOk, OnOk};
 ghost use Rattle.std.specs.List.{flat_map};
 ghost use Rattle.c62_explain.specs.Picture.{AddsHelp, IsHelp, hint};
 
+use crate::colon::colon_help;
 use crate::names::{is_left_out, is_of_full_set, is_of_others, nearest_mnemonic};
 use crate::near::is_near;
 use crate::operands::{push_forms, push_letters, push_range, push_sides};
@@ -55,14 +56,14 @@ pub fn push_hint(out: &mut Vec<u8>, number: u32, words: &[&[u8]]) -> Result<(), 
 
 impl<'a> Faulty<'a> {
     /// The token at which the fault is found.
-    fn word(self) -> &'a [u8] {
+    pub(crate) fn word(self) -> &'a [u8] {
         let start = self.place.start.min(self.line.len());
         let behind = &self.line[start..];
         &behind[..self.place.len.min(behind.len())]
     }
 
     /// The tokens behind the one at which the fault is found.
-    fn behind(self) -> Tokens<'a> {
+    pub(crate) fn behind(self) -> Tokens<'a> {
         let start = self.place.start.min(self.line.len());
         let behind = &self.line[start..];
         Tokens::new(&behind[self.place.len.min(behind.len())..])
@@ -439,10 +440,7 @@ fn push_help(
         Cause::Form(fault) => push_form_help(isa, out, at, fault, alloc),
         Cause::UnknownTarget => push_target_help(out, at),
         Cause::DuplicateLabel => push_label_help(out, at, alloc),
-        Cause::BadLabel => at.push(
-            out,
-            &[b"register pairs are left out, as results of 40 bits are"],
-        ),
+        Cause::BadLabel => at.push(out, &[colon_help(at)]),
         Cause::Directive => at.push(
             out,
             &[b"`adopt` reads texts with directives, and docs/ADOPT.md says which"],

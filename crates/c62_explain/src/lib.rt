@@ -1,6 +1,7 @@
 //! Says of a fault of a serial text where it is found, what is wrong, and a way out.
 #![tactic(auto)]
 
+mod colon;
 mod help;
 mod lines;
 mod names;
