@@ -1,4 +1,4 @@
-//! What the pages say of a fault or a rule.
+//! What the pages say of a fault, a rule, or a word of `check` or `show`.
 
 ghost use Rattle.std.specs.Prelude.{◌≡◌, ◌++◌, IfOk, OnOk, find, map, option_map};
 ghost use Rattle.c62_line.specs.Fault.{cause_name};
@@ -55,7 +55,7 @@ fn example(cause: Cause) -> &'static [u8]
     }
 }
 
-/// A fault or a rule that serial texts don't have.
+/// A fault or a rule that serial texts don't have, or a word of `check` or `show`.
 #[derive(Clone, Copy, PartialEq, Eq, Debug)]
 pub enum Topic {
     UnitWanted,
@@ -72,9 +72,34 @@ pub enum Topic {
     Padding,
     TooManyTargets,
     NoListing,
+    Same,
+    Missing,
+    Extra,
+    Early,
+    Uneven,
+    Outside,
+    Counter,
+    Branch,
+    But,
+    Undrained,
+    Branches,
+    Clash,
+    Unchecked,
+    Bound,
+    Path,
+    Units,
+    Use,
+    Lands,
+    Idle,
+    Slack,
+    After,
+    Taken,
+    Nothing,
+    Live,
+    Unused,
 }
 
-const TOPICS: [Topic; 14] = [
+const TOPICS: [Topic; 39] = [
     Topic::UnitWanted,
     Topic::Shape,
     Topic::TwoBranches,
@@ -89,6 +114,31 @@ const TOPICS: [Topic; 14] = [
     Topic::Padding,
     Topic::TooManyTargets,
     Topic::NoListing,
+    Topic::Same,
+    Topic::Missing,
+    Topic::Extra,
+    Topic::Early,
+    Topic::Uneven,
+    Topic::Outside,
+    Topic::Counter,
+    Topic::Branch,
+    Topic::But,
+    Topic::Undrained,
+    Topic::Branches,
+    Topic::Clash,
+    Topic::Unchecked,
+    Topic::Bound,
+    Topic::Path,
+    Topic::Units,
+    Topic::Use,
+    Topic::Lands,
+    Topic::Idle,
+    Topic::Slack,
+    Topic::After,
+    Topic::Taken,
+    Topic::Nothing,
+    Topic::Live,
+    Topic::Unused,
 ];
 
 impl Topic {
@@ -110,6 +160,31 @@ impl Topic {
             Topic::Padding => b"Padding",
             Topic::TooManyTargets => b"TooManyTargets",
             Topic::NoListing => b"NoListing",
+            Topic::Same => b"same",
+            Topic::Missing => b"missing",
+            Topic::Extra => b"extra",
+            Topic::Early => b"early",
+            Topic::Uneven => b"uneven",
+            Topic::Outside => b"outside",
+            Topic::Counter => b"counter",
+            Topic::Branch => b"branch",
+            Topic::But => b"but",
+            Topic::Undrained => b"undrained",
+            Topic::Branches => b"branches",
+            Topic::Clash => b"clash",
+            Topic::Unchecked => b"unchecked",
+            Topic::Bound => b"bound",
+            Topic::Path => b"path",
+            Topic::Units => b"units",
+            Topic::Use => b"use",
+            Topic::Lands => b"lands",
+            Topic::Idle => b"idle",
+            Topic::Slack => b"slack",
+            Topic::After => b"after",
+            Topic::Taken => b"taken",
+            Topic::Nothing => b"nothing",
+            Topic::Live => b"live",
+            Topic::Unused => b"unused",
         }
     }
 
@@ -132,6 +207,44 @@ impl Topic {
             Topic::Padding => b"this alignment may be padded with cycles that code runs through",
             Topic::TooManyTargets => b"a text has at most 256 labels that are named",
             Topic::NoListing => b"what is to be checked has no line `---`, and so no listing",
+            Topic::Same => b"the packets are a schedule of the block, or do what the loop does",
+            Topic::Missing => b"the packets lack an instruction of this line of the text",
+            Topic::Extra =>
+                b"the block or the loop lacks an instruction of this line of the packets",
+            Topic::Early => b"an instruction comes fewer cycles behind another than it must",
+            Topic::Uneven =>
+                b"prolog and epilog hold this instruction in another number of iterations than the loop's first",
+            Topic::Outside =>
+                b"all instructions of the loop are there, but its steps, branches or rows aren't as is asked",
+            Topic::Counter =>
+                b"the block that this branch of the text ends doesn't count down by one",
+            Topic::Branch =>
+                b"this branch of the packets takes effect at the end of no pass of the kernel",
+            Topic::But =>
+                b"the loads past the last iteration change these registers, and those of these lines may fault",
+            Topic::Undrained =>
+                b"something that the rows of the block issue lands when they are over, or later",
+            Topic::Branches => b"the rows of the block hold more than one branch",
+            Topic::Clash => b"two writes of a register land in one cycle of the rows of the block",
+            Topic::Unchecked =>
+                b"which rows are those of the block isn't known, or some rows belong to no block",
+            Topic::Bound => b"each schedule of the block has at least so many cycles",
+            Topic::Path =>
+                b"the critical path: each of its lines must come so many cycles behind the one before",
+            Topic::Units =>
+                b"so many instructions wait for these units that the block has at least so many cycles",
+            Topic::Use => b"in how many of 100 cycles the unit or the path is used",
+            Topic::Lands => b"which writes land in the cycle, so that the next one can read them",
+            Topic::Idle => b"nothing is issued in these cycles",
+            Topic::Slack =>
+                b"by how many cycles the instruction could be issued later, as far as dependences go",
+            Topic::After =>
+                b"a cycle earlier the instruction would come too early behind this line",
+            Topic::Taken =>
+                b"this line has the unit or the path that the instruction wants in the cycle before",
+            Topic::Nothing => b"the instruction finds all that it needs in the cycle before",
+            Topic::Live => b"how many registers of a side at most hold a value that is still read",
+            Topic::Unused => b"no instruction of the block reads or writes these registers",
         }
     }
 
@@ -151,6 +264,27 @@ impl Topic {
             Topic::P5 => b"MPY .M1 A1,A2,A3, and a cycle later ADD .L1 A4,A5,A3",
             Topic::OtherSection => b"ADD .L1 A1,A2,A3 below .data",
             Topic::Padding => b".align 6 below MVK .S1 1,A1",
+            Topic::Same => b"block 0 same",
+            Topic::Missing => b"block 0 missing 3",
+            Topic::Extra => b"block 0 extra 7",
+            Topic::Early => b"block 0 early 7 after 4 needs 5 has 4 reads A5",
+            Topic::Uneven => b"loop L uneven 3",
+            Topic::Outside => b"loop L outside",
+            Topic::Counter => b"loop L counter 9",
+            Topic::Branch => b"loop L branch 12",
+            Topic::But => b"loop L same from 1 trips cycles 1 but A2 fault 3",
+            Topic::Undrained => b"block 0 undrained",
+            Topic::Branches => b"block 0 branches",
+            Topic::Clash => b"block 0 clash",
+            Topic::Unchecked => b"rows unchecked",
+            Topic::Bound => b"15 over the bound of 80",
+            Topic::Path => b"path 3: lines 23 -A6:1- 24 -A5:1- 25",
+            Topic::Units => b"units 4: 2 on .S1, and 2 behind the last",
+            Topic::Idle => b"1-4 idle, landing: A5 in 4",
+            Topic::After => b"after 23 needs 1 reads A6",
+            Topic::Taken => b".S1 taken by 24",
+            Topic::Live => b"live A: 3 at most, in cycle 2",
+            Topic::Unused => b"unused A0 A1",
             _ => b"",
         }
     }
@@ -165,7 +299,32 @@ impl Topic {
             Topic::Shape | Topic::TwoBranches | Topic::NotDrained => b"docs/LISTING.md",
             Topic::P1 | Topic::P2 | Topic::P3 | Topic::P4 | Topic::P5 => b"docs/MACHINE.md",
             Topic::TooManyTargets => b"docs/EXEC.md",
-            Topic::NoListing => b"docs/CHECK.md",
+            Topic::NoListing
+            | Topic::Same
+            | Topic::Missing
+            | Topic::Extra
+            | Topic::Early
+            | Topic::Uneven
+            | Topic::Outside
+            | Topic::Counter
+            | Topic::Branch
+            | Topic::But
+            | Topic::Undrained
+            | Topic::Branches
+            | Topic::Clash
+            | Topic::Unchecked => b"docs/CHECK.md",
+            Topic::Bound
+            | Topic::Path
+            | Topic::Units
+            | Topic::Use
+            | Topic::Lands
+            | Topic::Idle
+            | Topic::Slack
+            | Topic::After
+            | Topic::Taken
+            | Topic::Nothing
+            | Topic::Live
+            | Topic::Unused => b"docs/SHOW.md",
         }
     }
 }
@@ -198,7 +357,7 @@ fn known_cause(word: &[u8]) -> Option<Cause>
     cause_named(&CAUSES, word)
 }
 
-/// The other fault or rule that has this name.
+/// The other fault, the rule or the word that has this name.
 #[tactic(auto, unfolding(crate::specs::Topic::known_topic))]
 fn known_topic(word: &[u8]) -> Option<Topic>
     ensures { result ≡ known_topic word.now }
@@ -255,7 +414,7 @@ fn cause_page(alloc: Global, cause: Cause) -> Result<Vec<u8>, AllocError>
     )
 }
 
-/// What is said of another fault or of a rule.
+/// What is said of another fault, of a rule or of a word.
 fn topic_text(alloc: Global, topic: Topic) -> Result<Vec<u8>, AllocError>
     ensures { IfOk result (λ out. out.items ≡ topic_text topic) }
 {
@@ -268,8 +427,8 @@ fn topic_text(alloc: Global, topic: Topic) -> Result<Vec<u8>, AllocError>
     )
 }
 
-/// What is said of a fault or a rule: its name and a sentence, an example where a line or two show it, and the page that has it
-/// (docs/FAULTS.md, "Names"). None for another word. The name may be written in either case.
+/// What is said of a fault, a rule, or a word of `check` or `show`: its name and a sentence, an example where a line or two show it, and the
+/// page that has it (docs/FAULTS.md, "Names"). None for another word. The name may be written in either case.
 ///
 /// # Errors
 ///
