@@ -4,7 +4,8 @@ use Rattle.std.proofs.Common.{ap, refl, sym}
 use Rattle.std.proofs.Common.{append_assoc, append-nil}
 use Rattle.std.proofs.Math.Seq.{drop-cons}
 use Rattle.std.proofs.lemmas.List.{map-append}
-use Rattle.std.specs.Prelude.{◌≢◌, codes, decimal, map, OnOk, Option, Some, None, Result, Ok, Err}
+use Rattle.std.proofs.lemmas.List.Elements.{All-push}
+use Rattle.std.specs.Prelude.{◌≢◌, All, codes, decimal, map, OnOk, Option, Some, None, Result, Ok, Err}
 use Rattle.std.specs.List.{flat_map}
 use Rattle.c62_adopt.specs.FaultText.{adopt_fault_text}
 use Rattle.c62_adopt.specs.declared.fault.AdoptFault.{AdoptFault}
@@ -18,7 +19,7 @@ use Rattle.c62_explain_packets.specs.Remarks.{AreListingRemarks, AreRemarks, IsP
 use Rattle.c62_explain_packets.specs.Remarks.{fault_line, placed_line, read_line, remark_lines}
 use Rattle.c62_explain_packets.specs.Remarks.AreListingRemarks.{Read, Unread}
 use Rattle.c62_explain_packets.specs.Remarks.AreRemarks.{Adopted, Refused}
-use Rattle.c62_explain_packets.specs.Warned.{AreWarned, TellsFault, verb, writer_text}
+use Rattle.c62_explain_packets.specs.Warned.{AreWarned, TellFaults, TellsFault, verb, writer_text}
 use Rattle.c62_explain_packets.specs.declared.early.EarlyRead.{EarlyRead}
 use Rattle.c62_explain_packets.specs.declared.finding.Finding.{Finding as Found}
 use Rattle.c62_explain_packets.specs.declared.remarks.PlacedFinding.{PlacedFinding}
@@ -95,39 +96,57 @@ tells_found isa name text None fault is = rw is refl
 tells_found isa name text (Some found) fault (placed, is, same, there) =
     rw (is, ← same) (told isa name text placed there)
 
--- a fault has its line alone
+told_all : (isa : InstructionSet) (name text : List ℕ) (all : List PlacedFinding) → All (IsPlaced isa text) all
+    → TellFaults isa name text (map (λ placed. placed.finding) all) (flat_map (placed_line name) all)
+told_all isa name text [] there = refl
+told_all isa name text (placed ∷ others) there = (
+  placed_line name placed,
+  flat_map (placed_line name) others,
+  refl,
+  told isa name text placed (there 0 placed (omega arith)),
+  told_all isa name text others (λ k d within. there (suc k) d (omega (arith, within))),
+)
+
+-- one more of the faults, with its column
+pub placed_next : (isa : InstructionSet) (text : List ℕ) (all new : List PlacedFinding) (placed : PlacedFinding)
+    → All (IsPlaced isa text) all → IsPlaced isa text placed → new ≡ all ++ placed ∷ [] → All (IsPlaced isa text) new
+placed_next isa text all new placed before is pushed = rw pushed (All-push (IsPlaced isa text) all placed before is)
+
+-- faults have their lines alone
 alone : (name : List ℕ) (remarks : Remarks) → remarks.reads.items ≡ []
-    → remark_lines name remarks ≡ fault_line name remarks.fault
+    → remark_lines name remarks ≡ fault_line name remarks.fault ++ flat_map (placed_line name) remarks.further.items
 unfolding remark_lines
-alone name remarks none = rw none (append-nil (fault_line name remarks.fault))
+alone name remarks none =
+    rw none (ap (λ (behind : List ℕ). fault_line name remarks.fault ++ behind) (append-nil (flat_map (placed_line name) remarks.further.items)))
 
 -- reads have theirs
-reads_alone : (name : List ℕ) (remarks : Remarks) → remarks.fault ≡ None
+reads_alone : (name : List ℕ) (remarks : Remarks) → remarks.fault ≡ None → remarks.further.items ≡ []
     → remark_lines name remarks ≡ flat_map (read_line name) remarks.reads.items
 unfolding remark_lines
-reads_alone name remarks none = rw none refl
+reads_alone name remarks none further = rw (none, further) refl
 
 pub lints_packets : (isa : InstructionSet) (most : ℕ) (name text lines : List ℕ) (remarks : Remarks)
     → AreRemarks isa most text remarks
     → lines ≡ remark_lines name remarks → IsLintedPackets isa most name text lines remarks.faulty
-lints_packets isa most name text lines remarks (Adopted sound packets added is none reads) says =
+lints_packets isa most name text lines remarks (Adopted sound packets added is none further reads) says =
     AdoptedLines sound packets added is record {
       drafts = reads.drafts;
       all = reads.all;
-      warned = rw (says, reads_alone name remarks none, ← reads.same) (all_warned name remarks.reads.items);
+      warned = rw (says, reads_alone name remarks none further, ← reads.same) (all_warned name remarks.reads.items);
     }
-lints_packets isa most name text lines remarks (Refused faulty fault room refuses placed is same there none) says =
-    RefusedLines faulty fault room refuses record {
-      found = placed.finding;
-      same = same;
-      tells = rw (says, alone name remarks none, is) (told isa name text placed there);
-    }
+lints_packets isa most name text lines remarks (Refused faulty fault room refuses placed is same there others none) says =
+    RefusedLines faulty fault room refuses (placed_line name placed) (flat_map (placed_line name) remarks.further.items)
+    (rw (says, alone name remarks none, is) refl)
+    record { found = placed.finding; same = same; tells = told isa name text placed there }
+    (map (λ each. each.finding) remarks.further.items) (told_all isa name text remarks.further.items others)
 
 pub lints_listing : (isa : InstructionSet) (name text lines : List ℕ) (remarks : Remarks)
     → AreListingRemarks isa text remarks
     → lines ≡ remark_lines name remarks → IsLintedListing isa name text lines remarks.faulty
-lints_listing isa name text lines remarks (Read sound packets is none reads) says =
-    ReadLines sound packets is (rw (says, alone name remarks reads, none) refl)
-lints_listing isa name text lines remarks (Unread faulty fault room refuses found is placed reads) says =
-    UnreadLines faulty fault room refuses found is
-    (rw (says, alone name remarks reads) (tells_found isa name text found remarks.fault placed))
+lints_listing isa name text lines remarks (Read sound packets is none further reads) says =
+    ReadLines sound packets is (rw (says, alone name remarks reads, none, further) refl)
+lints_listing isa name text lines remarks (Unread faulty fault room refuses found is placed others reads) says =
+    UnreadLines faulty fault room refuses found is (fault_line name remarks.fault)
+    (flat_map (placed_line name) remarks.further.items) (rw (says, alone name remarks reads) refl)
+    (tells_found isa name text found remarks.fault placed)
+    (map (λ each. each.finding) remarks.further.items) (told_all isa name text remarks.further.items others)

@@ -1,5 +1,5 @@
 -- What is found in packets, with columns (docs/FAULTS.md, "All faults at once" and "Reads in delay slots").
-use Rattle.std.specs.Prelude.{◌≡◌, ◌≢◌, ℕ, ◌+◌, true, false, List, [], ◌++◌, map, take, Option, Some, None}
+use Rattle.std.specs.Prelude.{◌≡◌, ◌≢◌, ℕ, ◌+◌, All, true, false, List, [], ◌++◌, map, take, Option, Some, None}
 use Rattle.std.specs.List.{flat_map}
 use Rattle.c62_packet.specs.Packed.{Packed}
 use Rattle.c62_listing_reader.specs.declared.fault.ListFault.{ListFault}
@@ -43,22 +43,22 @@ pub record AreReads (isa : InstructionSet) (most : ℕ) (text : List ℕ) (reads
   pub all : map draft_of drafts ≡ (code_cut isa text).drafts
   pub same : map (λ read. read.early) reads ≡ take most (early_among drafts)
 
--- A text of packets has a fault where it isn't adopted as it stands, and is told as that. Of one that is adopted there are the reads in delay
--- slots, at most so many.
+-- A text of packets has a fault where it isn't adopted as it stands, and is told as that. Others may be told behind it. Of one that is adopted
+-- there are the reads in delay slots, at most so many.
 pub data AreRemarks (isa : InstructionSet) (most : ℕ) (text : List ℕ) (remarks : Remarks) : Type 0 where
   Adopted : remarks.faulty ≡ false → (packets : List Packed) (added : ℕ) → IsAdopted isa false text packets added → remarks.fault ≡ None
-      → AreReads isa most text remarks.reads.items → AreRemarks isa most text remarks
+      → remarks.further.items ≡ [] → AreReads isa most text remarks.reads.items → AreRemarks isa most text remarks
   Refused : remarks.faulty ≡ true → (fault : AdoptFault) → fault ≢ NoRoom → Refuses isa false text fault
       → (placed : PlacedFinding) → remarks.fault ≡ Some placed → IsToldAs (adopt_fault_text fault) placed.finding → IsPlaced isa text placed
-      → remarks.reads.items ≡ [] → AreRemarks isa most text remarks
+      → All (IsPlaced isa text) remarks.further.items → remarks.reads.items ≡ [] → AreRemarks isa most text remarks
 
 -- and a listing where it isn't read
 pub data AreListingRemarks (isa : InstructionSet) (text : List ℕ) (remarks : Remarks) : Type 0 where
-  Read : remarks.faulty ≡ false → (packets : List Packed) → IsRead isa text packets → remarks.fault ≡ None → remarks.reads.items ≡ []
-      → AreListingRemarks isa text remarks
+  Read : remarks.faulty ≡ false → (packets : List Packed) → IsRead isa text packets → remarks.fault ≡ None → remarks.further.items ≡ []
+      → remarks.reads.items ≡ [] → AreListingRemarks isa text remarks
   Unread : remarks.faulty ≡ true → (fault : ListFault) → fault ≢ NoStore → RefusesListing isa text fault
-      → (found : Option Found) → IsFoundListed isa text fault found → IsPlacedAs isa text found remarks.fault → remarks.reads.items ≡ []
-      → AreListingRemarks isa text remarks
+      → (found : Option Found) → IsFoundListed isa text fault found → IsPlacedAs isa text found remarks.fault → All (IsPlaced isa text) remarks.further.items
+      → remarks.reads.items ≡ [] → AreListingRemarks isa text remarks
 
 -- ---- lines
 
@@ -75,9 +75,10 @@ abbrev pub fault_line : (name : List ℕ) → Option PlacedFinding → List ℕ
 fault_line name None = []
 fault_line name (Some placed) = placed_line name placed
 
--- a line for the fault, where there is one, and for each read
+-- a line for the fault, where there is one, for each that is told behind it, and for each read
 unfoldable pub remark_lines : (name : List ℕ) → Remarks → List ℕ
-remark_lines name remarks = fault_line name remarks.fault ++ flat_map (read_line name) remarks.reads.items
+remark_lines name remarks =
+    fault_line name remarks.fault ++ flat_map (placed_line name) remarks.further.items ++ flat_map (read_line name) remarks.reads.items
 
 -- these are the lines of what is found in packets, and in a listing
 pub record TellsRemarks (isa : InstructionSet) (most : ℕ) (name text lines : List ℕ) : Type 0 where

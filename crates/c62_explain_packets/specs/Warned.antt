@@ -33,6 +33,13 @@ pub record TellsFault (isa : InstructionSet) (name text : List ℕ) (found : Fou
   pub there : IsFoundAt isa found.what (line_at text found.line) place
   pub says : lines ≡ position name found.line place ++ fault_text (what_name found.what) (what_sentence found.what)
 
+-- a line tells each of these faults, in their order
+abbrev pub TellFaults : InstructionSet → (name text : List ℕ) → List Found → List ℕ → Type 0
+TellFaults isa name text [] lines = lines ≡ []
+TellFaults isa name text (found ∷ others) lines =
+    (first : List ℕ) × (behind : List ℕ) × (lines ≡ first ++ behind) × TellsFault isa name text found first
+    × TellFaults isa name text others behind
+
 -- a line tells what the text is refused for: the line and the name are those of the refusal
 pub record TellsRefusal (isa : InstructionSet) (name text : List ℕ) (fault : AdoptFault) (lines : List ℕ) : Type 0 where
   pub found : Found

@@ -54,7 +54,7 @@ fn push_resource(out: &mut Vec<u8>, resource: Resource) -> Result<(), AllocError
 }
 
 /// The instruction of this line, and its block.
-fn issue_at(drafts: &[Draft], line: u32) -> Option<(&Draft, &Issue)> {
+pub(crate) fn issue_at(drafts: &[Draft], line: u32) -> Option<(&Draft, &Issue)> {
     for draft in drafts {
         for issue in draft.issues.as_slice() {
             if issue.line == line {
@@ -212,6 +212,15 @@ fn first_branch(draft: &Draft) -> Option<&Issue> {
 fn cycles_missing(cut: &Cut, draft: &Draft, issue: &Issue) -> u32 {
     let over = block_end(cut, draft.start).saturating_sub(draft.start);
     landed(issue).saturating_sub(over)
+}
+
+/// Whether something of an instruction is in flight where its block is over.
+pub(crate) fn is_late(cut: &Cut, draft: &Draft, issue: &Issue) -> bool {
+    let behind = match first_branch(draft) {
+        Some(branch) => landed(branch) < landed(issue),
+        None => false,
+    };
+    behind || 0 < cycles_missing(cut, draft, issue)
 }
 
 /// What runs code that no listing holds.

@@ -3,6 +3,8 @@
 
 mod early;
 mod finding;
+mod further;
+mod further_listed;
 mod help;
 mod linted;
 mod remarks;

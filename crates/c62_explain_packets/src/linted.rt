@@ -1,4 +1,4 @@
-//! The first fault of a text of packets as a line for editors.
+//! The faults of a text of packets as lines for editors.
 
 ghost use Rattle.std.specs.Prelude.{◌≡◌, ◌++◌, IfOk, OnOk};
 ghost use Rattle.std.specs.List.{flat_map};
@@ -167,6 +167,16 @@ fn push_found(
     }
 }
 
+/// A line for each of these faults.
+fn push_all(out: &mut Vec<u8>, name: &[u8], faults: &[PlacedFinding]) -> Result<(), AllocError>
+    ensures { OnOk result (out.new.items ≡ out.old.items ++ flat_map (placed_line name.now) faults.now) }
+{
+    for placed in faults {
+        push_placed(out, name, *placed)?;
+    }
+    Ok(())
+}
+
 /// The lines of what is found in the text of this name.
 #[tactic(auto, unfolding(crate::specs::Remarks::remark_lines))]
 fn lines_of(alloc: Global, name: &[u8], remarks: &Remarks) -> Result<Vec<u8>, AllocError>
@@ -174,12 +184,13 @@ fn lines_of(alloc: Global, name: &[u8], remarks: &Remarks) -> Result<Vec<u8>, Al
 {
     let mut lines = Vec::new(alloc);
     push_found(&mut lines, name, remarks.fault)?;
+    push_all(&mut lines, name, &remarks.further)?;
     push_reads(&mut lines, name, &remarks.reads)?;
     Ok(lines)
 }
 
-/// The first fault of a text of packets as people and compilers write them, which is what `adopt` refuses it for. Where there is none, the
-/// reads in delay slots are told, at most so many.
+/// The faults of a text of packets as people and compilers write them, at most so many: first what `adopt` refuses it for. Where there is none,
+/// the reads in delay slots are told, at most so many.
 ///
 /// # Errors
 ///
@@ -200,7 +211,7 @@ pub fn lint_packets(
     Ok(Linted { lines, faulty })
 }
 
-/// The first fault of a listing, which is what `sim` refuses it for. Of a block it is told by the line that keeps the text from being
+/// The faults of a listing, at most so many: first what `sim` refuses it for. Of a block it is told by the line that keeps the text from being
 /// adopted.
 ///
 /// # Errors
@@ -211,11 +222,12 @@ pub fn lint_listing(
     alloc: Global,
     name: &[u8],
     text: &[u8],
+    most: usize,
 ) -> Result<Linted, AllocError>
     ensures linted { IfOk result (λ linted. IsLintedListing isa name.now text.now linted.lines.items linted.faulty) }
     ensures remarks { IfOk result (λ linted. TellsListingRemarks isa name.now text.now linted.lines.items) }
 {
-    let remarks = listing_remarks(isa, alloc, text)?;
+    let remarks = listing_remarks(isa, alloc, text, most)?;
     let lines = lines_of(alloc, name, &remarks)?;
     let faulty = remarks.faulty;
     Ok(Linted { lines, faulty })

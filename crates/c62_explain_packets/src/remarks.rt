@@ -1,6 +1,6 @@
 //! What is found in packets, with columns.
 
-ghost use Rattle.std.specs.Prelude.{◌≡◌, map, IfOk};
+ghost use Rattle.std.specs.Prelude.{◌≡◌, All, map, IfOk};
 ghost use Rattle.c62_adopt_cut.specs.Drafted.{cut_of};
 ghost use Rattle.c62_adopt.specs.Answer.{code_cut};
 ghost use Rattle.c62_explain_packets.specs.Warned.{early_among};
@@ -8,6 +8,8 @@ ghost use Rattle.c62_explain_packets.specs.Remarks.{AreListingRemarks, AreReads,
 
 use crate::early::{EarlyRead, early_reads};
 use crate::finding::{Finding, of_adopt, of_listing, place_in, without_bars};
+use crate::further::further_faults;
+use crate::further_listed::further_listed;
 use c62_adopt::{adopt, read_code};
 use c62_adopt_cut::{Cut, Draft, read_cut};
 use c62_explain::line_at;
@@ -37,8 +39,10 @@ pub struct PlacedRead {
 /// What is found in a text of packets.
 #[derive(Debug, Drop)]
 pub struct Remarks {
-    /// The fault that is told.
+    /// The fault that the text is refused for.
     pub fault: Option<PlacedFinding>,
+    /// The faults that are told behind it.
+    pub further: Vec<PlacedFinding>,
     /// The reads in delay slots that are told, where there is no fault.
     pub reads: Vec<PlacedRead>,
     /// Whether there is a fault.
@@ -60,6 +64,22 @@ fn placed(
         finding,
         column: place.start + 1,
     })
+}
+
+/// These faults of this text with their columns.
+fn all_placed(
+    isa: InstructionSet,
+    alloc: Global,
+    text: &[u8],
+    found: &[Finding],
+) -> Result<Vec<PlacedFinding>, AllocError>
+    ensures { IfOk result (λ all. All (IsPlaced isa text.now) all.items) }
+{
+    let mut all = Vec::new(alloc);
+    for finding in found {
+        all.push(placed(isa, alloc, text, *finding)?)?;
+    }
+    Ok(all)
 }
 
 /// What is found in this text, where something is, with its column.
@@ -153,8 +173,8 @@ fn reads_of(
     placed_reads(alloc, text, &reads)
 }
 
-/// The first fault of a text of packets as people and compilers write them, which is what `adopt` refuses it for. Where there is none, the
-/// reads in delay slots, at most so many.
+/// The faults of a text of packets as people and compilers write them, at most so many: first what `adopt` refuses it for. Where there is none,
+/// the reads in delay slots, at most so many.
 ///
 /// # Errors
 ///
@@ -171,6 +191,7 @@ pub fn packets_remarks(
         Ok(_) => {
             return Ok(Remarks {
                 fault: None,
+                further: Vec::new(alloc),
                 reads: reads_of(isa, alloc, text, most)?,
                 faulty: false,
             });
@@ -180,14 +201,16 @@ pub fn packets_remarks(
     let Some(finding) = of_adopt(fault) else {
         return Err(AllocError);
     };
+    let further = further_faults(isa, alloc, text, finding, most)?;
     Ok(Remarks {
         fault: Some(placed(isa, alloc, text, finding)?),
+        further: all_placed(isa, alloc, text, &further)?,
         reads: Vec::new(alloc),
         faulty: true,
     })
 }
 
-/// The first fault of a listing, which is what `sim` refuses it for. Of a block it is told by the line that keeps the text from being
+/// The faults of a listing, at most so many: first what `sim` refuses it for. Of a block it is told by the line that keeps the text from being
 /// adopted, and not at all where none does.
 ///
 /// # Errors
@@ -197,6 +220,7 @@ pub fn listing_remarks(
     isa: InstructionSet,
     alloc: Global,
     text: &[u8],
+    most: usize,
 ) -> Result<Remarks, AllocError>
     ensures { IfOk result (AreListingRemarks isa text.now) }
 {
@@ -204,6 +228,7 @@ pub fn listing_remarks(
         Ok(_) => {
             return Ok(Remarks {
                 fault: None,
+                further: Vec::new(alloc),
                 reads: Vec::new(alloc),
                 faulty: false,
             });
@@ -214,8 +239,10 @@ pub fn listing_remarks(
         return Err(AllocError);
     }
     let found = of_listing(isa, alloc, text, fault)?;
+    let further = further_listed(isa, alloc, text, fault, found, most)?;
     Ok(Remarks {
         fault: placed_as(isa, alloc, text, found)?,
+        further: all_placed(isa, alloc, text, &further)?,
         reads: Vec::new(alloc),
         faulty: true,
     })

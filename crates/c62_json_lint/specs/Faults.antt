@@ -58,4 +58,6 @@ faults_members file all = members (flat_map (fault_told file) all)
 
 -- of what is found in packets
 unfoldable pub remarks_members : (file : List ℕ) → Remarks → List Token
-remarks_members file remarks = members (found_told file remarks.fault ++ flat_map (read_told file) remarks.reads.items)
+remarks_members file remarks =
+    members
+    (found_told file remarks.fault ++ flat_map (finding_told file) remarks.further.items ++ flat_map (read_told file) remarks.reads.items)

@@ -3,7 +3,7 @@
 ghost use Rattle.std.specs.Prelude.{◌≡◌, ◌++◌, codes, IfOk};
 ghost use Rattle.std.specs.List.{flat_map};
 ghost use Rattle.c62_json.specs.Document.{Adds, document};
-ghost use Rattle.c62_json_lint.specs.Faults.{found_told, read_told, remarks_members};
+ghost use Rattle.c62_json_lint.specs.Faults.{finding_told, found_told, read_told, remarks_members};
 ghost use Rattle.c62_json_lint.specs.Linted.{IsListingDocument, IsPacketsDocument};
 
 use crate::document::LintedDocument;
@@ -44,6 +44,21 @@ fn push_found(
     }
 }
 
+/// An object for each of these faults.
+fn push_all(
+    alloc: Global,
+    out: &mut Writer,
+    file: &[u8],
+    faults: &[PlacedFinding],
+) -> Result<(), AllocError>
+    ensures { Adds result out.old out.new (flat_map (finding_told file.now) faults.now) }
+{
+    for placed in faults {
+        push_finding(alloc, out, file, *placed)?;
+    }
+    Ok(())
+}
+
 /// The member of what is found.
 #[tactic(auto, unfolding(crate::specs::Faults::remarks_members))]
 fn push_remarks(
@@ -57,6 +72,7 @@ fn push_remarks(
     out.key("faults")?;
     out.begin_array()?;
     push_found(alloc, out, file, remarks.fault)?;
+    push_all(alloc, out, file, &remarks.further)?;
     push_reads(alloc, out, file, &remarks.reads)?;
     out.end_array()
 }
@@ -70,8 +86,8 @@ fn remarks_text(alloc: Global, file: &[u8], remarks: &Remarks) -> Result<Vec<u8>
     end(out)
 }
 
-/// The document of packets as people and compilers write them, in a file of this name: the first fault, and where there is none the
-/// reads in delay slots, at most so many.
+/// The document of packets as people and compilers write them, in a file of this name: the faults, and where there are none the reads in
+/// delay slots, at most so many.
 ///
 /// # Errors
 ///
@@ -91,7 +107,7 @@ pub fn packets_document(
     Ok(LintedDocument { text, faulty })
 }
 
-/// The document of a listing in a file of this name: its first fault.
+/// The document of a listing in a file of this name: its faults, at most so many.
 ///
 /// # Errors
 ///
@@ -101,10 +117,11 @@ pub fn listing_document(
     alloc: Global,
     file: &[u8],
     text: &[u8],
+    most: usize,
 ) -> Result<LintedDocument, AllocError>
     ensures { IfOk result (λ linted. IsListingDocument isa file.now text.now linted.text.items linted.faulty) }
 {
-    let remarks = listing_remarks(isa, alloc, text)?;
+    let remarks = listing_remarks(isa, alloc, text, most)?;
     let text = remarks_text(alloc, file, &remarks)?;
     let faulty = remarks.faulty;
     Ok(LintedDocument { text, faulty })

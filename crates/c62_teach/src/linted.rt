@@ -42,7 +42,7 @@ fn lines_of(
 {
     match linting.kind {
         Kind::Serial => lint_serial(isa, alloc, name, text, linting.most),
-        Kind::Listing => lint_listing(isa, alloc, name, text),
+        Kind::Listing => lint_listing(isa, alloc, name, text, linting.most),
         Kind::Packets => lint_packets(isa, alloc, name, text, linting.most),
     }
 }
@@ -60,7 +60,7 @@ fn document_of(
 {
     let told = match linting.kind {
         Kind::Serial => serial_document(isa, alloc, name, text, linting.most),
-        Kind::Listing => listing_document(isa, alloc, name, text),
+        Kind::Listing => listing_document(isa, alloc, name, text, linting.most),
         Kind::Packets => packets_document(isa, alloc, name, text, linting.most),
     }?;
     Ok(Linted {
