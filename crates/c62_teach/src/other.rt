@@ -5,10 +5,11 @@ ghost use Rattle.c62_explain.specs.Picture.{AddsHelp};
 
 use c62_adopt::{AdoptFault, adopt};
 use c62_explain::push_hint;
-use c62_line::Cause;
+use c62_line::{Cause, Mnemonic, first_condition, first_label, first_mnemonic, unit_behind};
 use c62_listing_reader::{ListFault, read_listing};
 use c62_op::InstructionSet;
-use c62_read::read_program;
+use c62_read::{first_line, read_program};
+use c62_token::Tokens;
 use std::alloc::{AllocError, Global};
 
 /// Whether the text is serial text.
@@ -40,12 +41,41 @@ fn is_adopted(isa: InstructionSet, alloc: Global, text: &[u8]) -> Result<bool, A
     }
 }
 
+/// Whether a line has what packets have: bars, a unit or a NOP.
+fn is_of_packets(isa: InstructionSet, line: &[u8]) -> bool {
+    let (_label, rest) = first_label(Tokens::new(line));
+    match rest.peek() {
+        Some([b'|', b'|']) => true,
+        _ => names_unit(isa, rest).unwrap_or(false),
+    }
+}
+
+/// Whether an instruction is a NOP or names its unit, where one stands here.
+fn names_unit(isa: InstructionSet, rest: Tokens<'_>) -> Option<bool> {
+    let (_cond, rest) = first_condition(rest)?;
+    let (mnemonic, rest) = first_mnemonic(isa, rest)?;
+    let (written, _rest) = unit_behind(mnemonic, rest)?;
+    Some(matches!(mnemonic, Mnemonic::Nop) || written.is_some())
+}
+
+/// Whether some line of the text has what packets have.
+fn has_packets(isa: InstructionSet, text: &[u8]) -> bool {
+    let mut rest = text;
+    while let Some((line, after)) = first_line(rest) {
+        if is_of_packets(isa, line) {
+            return true;
+        }
+        rest = after;
+    }
+    false
+}
+
 /// What helps where a text isn't serial text.
 fn serial_hint(isa: InstructionSet, alloc: Global, text: &[u8]) -> Result<Vec<u8>, AllocError> {
     let mut hint = Vec::new(alloc);
     if is_listing(isa, alloc, text)? {
         hint.extend_from_slice(b"this is a listing: `sim` runs it")?;
-    } else if is_adopted(isa, alloc, text)? {
+    } else if has_packets(isa, text) && is_adopted(isa, alloc, text)? {
         hint.extend_from_slice(
             b"these are packets: `exec` runs them, and `adopt` makes their listing",
         )?;
@@ -70,7 +100,7 @@ pub(crate) fn push_serial_hint(
     push_hint(more, line, &[&hint])
 }
 
-/// Adds which command wants a text that is no listing and no packets: serial text is run by others.
+/// Adds which command wants a text that is no listing and no packets: serial text is run by others. Nothing where it has what packets have.
 pub(crate) fn push_packets_hint(
     isa: InstructionSet,
     more: &mut Vec<u8>,
@@ -78,7 +108,7 @@ pub(crate) fn push_packets_hint(
     text: &[u8],
     line: u32,
 ) -> Result<(), AllocError> {
-    if is_serial(isa, alloc, text)? {
+    if !has_packets(isa, text) && is_serial(isa, alloc, text)? {
         return push_hint(
             more,
             line,
