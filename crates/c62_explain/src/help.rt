@@ -5,7 +5,7 @@ ghost use Rattle.std.specs.List.{flat_map};
 ghost use Rattle.c62_explain.specs.Picture.{AddsHelp, IsHelp, hint};
 
 use crate::colon::colon_help;
-use crate::names::{is_left_out, is_of_full_set, is_of_others, nearest_mnemonic};
+use crate::mnemonic::push_mnemonic_help;
 use crate::near::is_near;
 use crate::operands::{push_forms, push_letters, push_range, push_sides};
 use crate::picture::{push_margin, push_number};
@@ -29,6 +29,10 @@ pub(crate) struct Faulty<'a> {
     pub fault: ReadFault,
     pub place: Place,
 }
+
+/// How a comment is written.
+pub(crate) const COMMENT: &[u8] =
+    b"a comment begins with `;`, or with `*` as the first byte of its line";
 
 /// Adds words, one behind the other.
 fn push_words(out: &mut Vec<u8>, words: &[&[u8]]) -> Result<(), AllocError>
@@ -69,7 +73,7 @@ impl<'a> Faulty<'a> {
         Tokens::new(&behind[self.place.len.min(behind.len())..])
     }
 
-    fn push(self, out: &mut Vec<u8>, words: &[&[u8]]) -> Result<(), AllocError>
+    pub(crate) fn push(self, out: &mut Vec<u8>, words: &[&[u8]]) -> Result<(), AllocError>
         ensures { OnOk result (AddsHelp self.entry.fault.line out.old.items out.new.items) }
     {
         push_hint(out, self.fault.line, words)
@@ -81,55 +85,6 @@ impl<'a> Faulty<'a> {
         let (_cond, rest) = first_condition(rest)?;
         first_mnemonic(isa, rest)
     }
-}
-
-/// Whether the first token is a mnemonic.
-fn begins_with_mnemonic(isa: InstructionSet, rest: Tokens<'_>) -> bool {
-    first_mnemonic(isa, rest).is_some()
-}
-
-/// What is told of the name of an instruction that the set lacks.
-fn instruction_help(word: &[u8]) -> Option<&'static [u8]> {
-    if is_of_full_set(word) {
-        Some(b" is an instruction of the full set: write `--isa full`")
-    } else if is_left_out(word) {
-        Some(b" is an instruction of the C62x that c62 leaves out (docs/MACHINE.md)")
-    } else if is_of_others(word) {
-        Some(b" is an instruction of the C64x or the C67x")
-    } else {
-        None
-    }
-}
-
-/// Help for a word that is no mnemonic.
-#[tactic(auto, using(crate::proofs::HintLemmas::adds_none, crate::proofs::HintLemmas::adds_behind_on))]
-fn push_mnemonic_help(
-    isa: InstructionSet,
-    out: &mut Vec<u8>,
-    at: Faulty<'_>,
-) -> Result<(), AllocError>
-    ensures { OnOk result (AddsHelp at.entry.fault.line out.old.items out.new.items) }
-{
-    let word = at.word();
-    if word.is_empty() {
-        return Ok(());
-    }
-    if let Some(says) = instruction_help(word) {
-        return at.push(out, &[word, says]);
-    }
-    if begins_with(b'#', word) || begins_with(b'/', word) || begins_with(b'*', word) {
-        return at.push(
-            out,
-            &[b"a comment begins with `;`, or with `*` as the first byte of its line"],
-        );
-    }
-    if let Some(name) = nearest_mnemonic(isa, word) {
-        return at.push(out, &[b"the nearest mnemonic is ", name.as_bytes()]);
-    }
-    if begins_with_mnemonic(isa, at.behind()) {
-        return at.push(out, &[b"a label ends in a colon: ", word, b":"]);
-    }
-    Ok(())
 }
 
 /// The nearest label of the text: the same in another case, or one letter off.
@@ -164,6 +119,15 @@ fn line_with_label(text: &[u8], word: &[u8]) -> u32 {
 fn push_target_help(out: &mut Vec<u8>, at: Faulty<'_>) -> Result<(), AllocError>
     ensures { OnOk result (AddsHelp at.entry.fault.line out.old.items out.new.items) }
 {
+    if line_with_label(at.text, at.word()) != 0 {
+        return at.push(
+            out,
+            &[
+                at.word(),
+                b" is in a section of data, which c62 doesn't read: put the data into memory by `--load`, and write its address as a number",
+            ],
+        );
+    }
     match nearest_label(at.text, at.word()) {
         Some(label) => at.push(out, &[b"the nearest label is ", label]),
         None => Ok(()),
@@ -272,6 +236,9 @@ fn word_help(isa: InstructionSet, mut operands: Operands, word: &[u8]) -> Option
     if word.is_empty() {
         return Some(b"the line ends here, and operands are missing");
     }
+    if begins_with(b'/', word) || begins_with(b'#', word) {
+        return Some(COMMENT);
+    }
     if begins_with(b'(', word) || begins_with(b'[', word) {
         return Some(b"an offset is written with a sign and in brackets, as *+A4[2]");
     }
@@ -344,6 +311,17 @@ fn push_operand_help(
     push_forms_help(isa, out, at, mnemonic, alloc)
 }
 
+/// Help for a unit that is written with a cross path and has none.
+#[tactic(auto, using(crate::proofs::HintLemmas::adds_none))]
+fn push_path_help(out: &mut Vec<u8>, at: Faulty<'_>) -> Result<(), AllocError>
+    ensures { OnOk result (AddsHelp at.entry.fault.line out.old.items out.new.items) }
+{
+    match at.word() {
+        [b'.', b'D' | b'd', _, b'X' | b'x'] => at.push(out, &[b"a unit .D has no cross path"]),
+        _ => Ok(()),
+    }
+}
+
 #[tactic(auto, using(crate::proofs::HintLemmas::adds_none, crate::proofs::HintLemmas::adds_behind_on))]
 fn push_unit_help(
     isa: InstructionSet,
@@ -356,6 +334,7 @@ fn push_unit_help(
     let Some((mnemonic, _)) = at.mnemonic(isa) else {
         return Ok(());
     };
+    push_path_help(out, at)?;
     let mut letters = Vec::new(alloc);
     push_letters(&mut letters, mnemonic)?;
     at.push(out, &[&letters])

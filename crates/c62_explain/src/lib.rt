@@ -4,6 +4,7 @@
 mod colon;
 mod help;
 mod lines;
+mod mnemonic;
 mod names;
 mod near;
 mod operands;
