@@ -17,7 +17,7 @@ fn begins_with_mnemonic(isa: InstructionSet, rest: Tokens<'_>) -> bool {
 }
 
 /// What is told of the name of an instruction that the set lacks, or has by another name.
-fn instruction_help(word: &[u8]) -> Option<&'static [u8]> {
+fn instruction_help(word: &[u8]) -> Option<&[u8]> {
     if is_of_full_set(word) {
         Some(b" is an instruction of the full set: write `--isa full`")
     } else if is_left_out(word) {

@@ -117,7 +117,7 @@ alone : (name : List ℕ) (remarks : Remarks) → remarks.reads.items ≡ []
     → remark_lines name remarks ≡ fault_line name remarks.fault ++ flat_map (placed_line name) remarks.further.items
 unfolding remark_lines
 alone name remarks none =
-    rw none (ap (λ (behind : List ℕ). fault_line name remarks.fault ++ behind) (append-nil (flat_map (placed_line name) remarks.further.items)))
+    rw none (append-nil (fault_line name remarks.fault ++ flat_map (placed_line name) remarks.further.items))
 
 -- reads have theirs
 reads_alone : (name : List ℕ) (remarks : Remarks) → remarks.fault ≡ None → remarks.further.items ≡ []
