@@ -48,7 +48,7 @@ module _ (isa : InstructionSet) (ask : Ask) (text : List ℕ) where
   no_program same (failures.RowsPart fault) gives = absurd gives
   no_program same (failures.NoLoop k) gives = absurd gives
   no_program same (failures.Promise bad) gives = absurd gives
-  no_program same failures.Ways gives = absurd gives
+  no_program same (failures.Excluded exclusion) gives = absurd gives
   no_program same (failures.Words e) gives = absurd gives
   no_program same (failures.Setting k) gives = absurd gives
   no_program same failures.Memory gives = tt

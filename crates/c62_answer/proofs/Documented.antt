@@ -69,7 +69,7 @@ module _ (isa : InstructionSet) (ask : Ask) (text : List ℕ) where
   refused_too (failures.RowsPart fault) gives = gives
   refused_too (failures.NoLoop k) gives = gives
   refused_too (failures.Promise bad) gives = gives
-  refused_too failures.Ways gives = gives
+  refused_too (failures.Excluded exclusion) gives = gives
   refused_too (failures.Words e) gives = gives
   refused_too (failures.Setting k) gives = gives
   refused_too failures.Memory gives = gives
@@ -97,7 +97,7 @@ module _ (isa : InstructionSet) (ask : Ask) (name text : List ℕ) where
   reached_document taken (Err failures.NoListing) is gives = inr (taken, is, gives)
   reached_document taken (Err (failures.NoLoop k)) is gives = inr (taken, is, gives)
   reached_document taken (Err (failures.Promise bad)) is gives = absurd gives
-  reached_document taken (Err failures.Ways) is gives = absurd gives
+  reached_document taken (Err (failures.Excluded exclusion)) is gives = absurd gives
   reached_document taken (Err (failures.Words e)) is gives = absurd gives
   reached_document taken (Err (failures.Setting k)) is gives = absurd gives
   reached_document taken (Err failures.Memory) is gives = tt

@@ -39,7 +39,7 @@ module _ (isa : InstructionSet) (form : Form) (ask : Ask) (text : List ℕ)
   none_given (failures.RowsPart fault) gives = absurd gives
   none_given (failures.NoLoop k) gives = absurd gives
   none_given (failures.Promise bad) gives = absurd gives
-  none_given failures.Ways gives = absurd gives
+  none_given (failures.Excluded exclusion) gives = absurd gives
   none_given (failures.Words e) gives = absurd gives
   none_given (failures.Setting k) gives = absurd gives
   none_given failures.Memory gives = tt

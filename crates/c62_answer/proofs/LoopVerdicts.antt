@@ -59,7 +59,7 @@ module _ (isa : InstructionSet) (trips : List (Name × ℕ)) (apart : List Reg) 
   no_text (failures.Words e) gives = absurd gives
   no_text (failures.Setting k) gives = absurd gives
   no_text (failures.Promise bad) gives = absurd gives
-  no_text failures.Ways gives = absurd gives
+  no_text (failures.Excluded exclusion) gives = absurd gives
   no_text failures.Memory gives = tt
   no_text failures.Input gives = absurd gives
   no_text failures.Output gives = absurd gives
@@ -117,7 +117,7 @@ module _ (isa : InstructionSet) (trips : List (Name × ℕ)) (apart : List Reg) 
     no_rows named (failures.Words e) gives = absurd gives
     no_rows named (failures.Setting k) gives = absurd gives
     no_rows named (failures.Promise bad) gives = absurd gives
-    no_rows named failures.Ways gives = absurd gives
+    no_rows named (failures.Excluded exclusion) gives = absurd gives
     no_rows named failures.Memory gives = tt
     no_rows named failures.Input gives = absurd gives
     no_rows named failures.Output gives = absurd gives

@@ -43,7 +43,7 @@ module _ (isa : InstructionSet) (trips : List (Name × ℕ)) (text : List ℕ) w
   unread_loops (failures.RowsPart fault) gives = absurd gives
   unread_loops (failures.NoLoop k) gives = absurd gives
   unread_loops (failures.Promise bad) gives = absurd gives
-  unread_loops failures.Ways gives = absurd gives
+  unread_loops (failures.Excluded exclusion) gives = absurd gives
   unread_loops (failures.Words e) gives = absurd gives
   unread_loops (failures.Setting k) gives = absurd gives
   unread_loops failures.Memory gives = tt
@@ -71,7 +71,7 @@ module _ (isa : InstructionSet) (trips : List (Name × ℕ)) (text : List ℕ) w
   no_loops ask same (failures.RowsPart fault) gives = absurd gives
   no_loops ask same (failures.NoLoop number) gives = same (no_loop number) gives
   no_loops ask same (failures.Promise bad) gives = absurd gives
-  no_loops ask same failures.Ways gives = absurd gives
+  no_loops ask same (failures.Excluded exclusion) gives = absurd gives
   no_loops ask same (failures.Words e) gives = absurd gives
   no_loops ask same (failures.Setting k) gives = absurd gives
   no_loops ask same failures.Memory gives = tt

@@ -22,7 +22,7 @@ module _ (isa : InstructionSet) (ask : Ask) (name text : List ℕ) where
   not_reached (failures.RowsPart fault) gives = absurd gives
   not_reached (failures.NoLoop k) gives = absurd gives
   not_reached (failures.Promise bad) gives = absurd gives
-  not_reached failures.Ways gives = absurd gives
+  not_reached (failures.Excluded exclusion) gives = absurd gives
   not_reached (failures.Words e) gives = absurd gives
   not_reached (failures.Setting k) gives = absurd gives
   not_reached failures.Memory gives = tt
@@ -44,7 +44,7 @@ module _ (isa : InstructionSet) (ask : Ask) (name text : List ℕ) where
   reached taken (Err failures.NoListing) is gives = inr (taken, is, gives)
   reached taken (Err (failures.NoLoop k)) is gives = inr (taken, is, gives)
   reached taken (Err (failures.Promise bad)) is gives = absurd gives
-  reached taken (Err failures.Ways) is gives = absurd gives
+  reached taken (Err (failures.Excluded exclusion)) is gives = absurd gives
   reached taken (Err (failures.Words e)) is gives = absurd gives
   reached taken (Err (failures.Setting k)) is gives = absurd gives
   reached taken (Err failures.Memory) is gives = tt

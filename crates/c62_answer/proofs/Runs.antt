@@ -6,7 +6,7 @@ use Rattle.std.specs.Option.{IsSomeAnd}
 use Rattle.std.specs.Io.KnownBytes.{Appends, Keeps}
 use Rattle.c62_answer.specs.Message.{Telling, Tells, TellsOf, TellsOutcome, adopt_message, fault_message, list_message}
 use Rattle.c62_answer.specs.Message.{rows_message, message_of, no_listing, no_loop, of_listing, of_text}
-use Rattle.c62_answer.specs.Message.{promise_message, setting_message, ways_message}
+use Rattle.c62_answer.specs.Message.{promise_message, setting_message, exclusion_message}
 use Rattle.c62_answer.specs.Run.{AsksInVain, AsksNothing, Blames, BreaksOff, Does, Fails, Gives, HasFailed}
 use Rattle.c62_answer.specs.Run.{IsCommandFailure, IsDone, IsRunBy, Streams, TakesAtMost, limit_of, status_done}
 use Rattle.c62_answer.specs.Run.{status_of}
@@ -92,7 +92,7 @@ refuses isa ask known old text failures.NoListing read gives =
 refuses isa ask known old text (failures.NoLoop k) read gives =
     (refused isa ask known text (no_loop k) read gives, Keeps-same old)
 refuses isa ask known old text (failures.Promise bad) read gives = absurd gives
-refuses isa ask known old text failures.Ways read gives = absurd gives
+refuses isa ask known old text (failures.Excluded exclusion) read gives = absurd gives
 refuses isa ask known old text failures.Memory read gives = Keeps-same old
 refuses isa ask known old text failures.Input read gives = absurd gives
 refuses isa ask known old text failures.Output read gives = absurd gives
@@ -217,9 +217,9 @@ module _ (isa : InstructionSet) (Told : Telling) (words : List Text) (old new : 
   is_not_asked f (command.Promise bad, is, why) quiet told =
       rw is (is_blamed quiet
       (inr (record { text = promise_message bad; is = inr (inl (bad, why, refl)); told = rw is at told })))
-  is_not_asked f (command.Ways, is, why) quiet told =
+  is_not_asked f (command.Excluded exclusion, is, why) quiet told =
       rw is (is_blamed quiet
-      (inr (record { text = ways_message; is = inr (inr (why, refl)); told = rw is at told })))
+      (inr (record { text = exclusion_message exclusion; is = inr (inr (exclusion, why, refl)); told = rw is at told })))
   is_not_asked f (command.Memory, is, any) quiet told = rw is (is_out_of_memory quiet (rw is at told))
 
   -- what they ask for was not done
@@ -262,7 +262,7 @@ module _ (isa : InstructionSet) (Told : Telling) (words : List Text) (old new : 
       is_refused fails.1 (record { text = no_loop k; is = for_asked words ask _ is fails.0; told = told })
       (λ none. absurd cc)
   is_not_done (failures.Promise bad) ask is fails told = absurd fails
-  is_not_done failures.Ways ask is fails told = absurd fails
+  is_not_done (failures.Excluded exclusion) ask is fails told = absurd fails
   is_not_done failures.NoListing ask is fails told =
       is_refused fails.1 (record { text = no_listing; is = for_asked words ask _ is fails.0; told = told })
       (λ none. absurd cc)

@@ -27,7 +27,7 @@ use Rattle.c62_pipe.specs.Chain.{IsBlockPacked, RunsPackets}
 use Rattle.c62_pipe.proofs.Chains.{run_alike}
 use Rattle.c62_board.specs.State.{BoardState}
 use Rattle.c62_meaning.specs.Laws.{AreSerial}
-use Rattle.c62_pack.specs.Packets.{AreNumbered, ArePackets}
+use Rattle.c62_pack.specs.Packets.{AreNumbered, ArePackets, ArePlaced}
 use Rattle.c62_command.specs.declared.command.Packing.{Packing}
 use Rattle.c62_command.specs.declared.command.Showing.{Showing}
 use Rattle.c62_show.specs.declared.limits.Limits.{Limits}
@@ -37,7 +37,8 @@ use Rattle.c62_show.specs.Registers.{TellsLives}
 use Rattle.c62_shortest.specs.declared.searched.Shortest.{Shortest as Found}
 use Rattle.c62_shortest.specs.Shortest.{IsShortest}
 use Rattle.c62_answer.specs.Schedule.{AddsPackets, ArePacketsFrom, AreScheduled, AreShown, IsMade, IsScheduled, IsShown}
-use Rattle.c62_answer.specs.Schedule.{IsShownOf, MayStand, TellsLimits, TellsWhys}
+use Rattle.c62_answer.specs.Schedule.{AreTold, IsShownOf, MayStand, TellsLimits}
+use Rattle.c62_why.specs.Why.{TellsWhys, critical_from}
 use Rattle.c62_read.specs.declared.limits.TheConstants.{MOST_BLOCKS}
 
 -- one block more
@@ -109,7 +110,7 @@ shown_one showing block board shown made is =
             keeps = from.keeps;
           };
       limits = here.limits;
-      whys = here.whys;
+      told = here.told;
       lives = here.lives;
     }
 
@@ -141,19 +142,35 @@ short_packets packing block own found asked is =
       keeps = is.is.keeps;
     }
 
+-- what is told of instructions that are placed so
+pub told_of : (why : Bool) (block : Serial) (spots : Spots) (shown : Shown) (placed first second : List Placed) (cycles : ℕ)
+    → ArePlaced block spots placed → first ≡ placed → second ≡ placed → cycles ≡ shown.packets.cycles
+    → TellsWhys why (insns_of block) cycles first shown.whys.items
+    → shown.critical.items ≡ critical_from (insns_of block) cycles 0 second → AreTold why block spots shown
+told_of why block spots shown placed first second cycles are is_first is_second length whys critical = record {
+  placed = placed;
+  are = are;
+  whys =
+      subst (λ (n : ℕ). TellsWhys why (insns_of block) n placed shown.whys.items) length
+      (subst (λ (all : List Placed). TellsWhys why (insns_of block) cycles all shown.whys.items) is_first whys);
+  critical =
+      subst (λ (n : ℕ). shown.critical.items ≡ critical_from (insns_of block) n 0 placed) length
+      (subst (λ (all : List Placed). shown.critical.items ≡ critical_from (insns_of block) cycles 0 all) is_second critical);
+}
+
 -- what is shown of a board's own packets
 pub shown_plainly : (showing : Showing) (block : Serial) (own : Spots) (shown : Shown) (limits : Limits)
     → showing.packing.shortest ≡ false
     → ArePackets block own shown.packets → AreSerial block.insns shown.packets.placed
     → IsBlockPacked block shown.packets → shown.limits ≡ Some limits
-    → ArePlainLimits block limits → TellsWhys showing.why block own shown.packets.cycles shown.whys.items
+    → ArePlainLimits block limits → AreTold showing.why block own shown
     → TellsLives showing.registers shown.packets shown.lives
     → IsShownOf showing block own shown
 unfolding own_packets
-shown_plainly showing block own shown limits plain packets serial keeps some known whys lives = record {
+shown_plainly showing block own shown limits plain packets serial keeps some known told lives = record {
   from = own_packets showing.packing block own shown.packets plain packets serial keeps;
   limits = rw some (subst (λ (shortest : Bool). TellsLimits shortest block limits) (sym plain) known);
-  whys = whys;
+  told = told;
   lives = lives;
 }
 
@@ -162,11 +179,11 @@ pub shown_shortest : (showing : Showing) (block : Serial) (own : Spots) (shown :
     (limits : Limits) → showing.packing.shortest ≡ true
     → IsShortest block (set_length (insns_of block) own) found → shown.packets ≡ found.schedule.packets
     → shown.limits ≡ Some limits → AreLimits block limits
-    → TellsWhys showing.why block (map Some found.schedule.spots.items) shown.packets.cycles shown.whys.items
+    → AreTold showing.why block (map Some found.schedule.spots.items) shown
     → TellsLives showing.registers shown.packets shown.lives
     → IsShownOf showing block own shown
 unfolding short_packets
-shown_shortest showing block own shown found limits asked is same some known whys lives =
+shown_shortest showing block own shown found limits asked is same some known told lives =
     let short = short_packets showing.packing block own found asked is in
     record {
       from = record {
@@ -177,7 +194,7 @@ shown_shortest showing block own shown found limits asked is same some known why
         keeps = rw same short.keeps;
       };
       limits = rw some (subst (λ (shortest : Bool). TellsLimits shortest block limits) (sym asked) known);
-      whys = whys;
+      told = told;
       lives = lives;
     }
 

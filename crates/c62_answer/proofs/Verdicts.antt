@@ -47,7 +47,7 @@ module _ (isa : InstructionSet) (form : Form) (input text listing : List ℕ) (p
   no_text (failures.RowsPart fault) gives = absurd gives
   no_text (failures.NoLoop k) gives = absurd gives
   no_text (failures.Promise bad) gives = absurd gives
-  no_text failures.Ways gives = absurd gives
+  no_text (failures.Excluded exclusion) gives = absurd gives
   no_text (failures.Words e) gives = absurd gives
   no_text (failures.Setting k) gives = absurd gives
   no_text failures.Memory gives = tt
@@ -88,7 +88,7 @@ module _ (isa : InstructionSet) (form : Form) (input text listing : List ℕ) (p
   no_packets_part program says (failures.RowsPart fault) gives = absurd gives
   no_packets_part program says (failures.NoLoop k) gives = absurd gives
   no_packets_part program says (failures.Promise bad) gives = absurd gives
-  no_packets_part program says failures.Ways gives = absurd gives
+  no_packets_part program says (failures.Excluded exclusion) gives = absurd gives
   no_packets_part program says (failures.Words e) gives = absurd gives
   no_packets_part program says (failures.Setting k) gives = absurd gives
   no_packets_part program says failures.Memory gives = tt

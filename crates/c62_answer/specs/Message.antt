@@ -11,6 +11,8 @@ use Rattle.c62_adopt.specs.declared.fault.AdoptFault.{AdoptFault}
 use Rattle.c62_adopt.specs.FaultText.{adopt_fault_text}
 use Rattle.c62_rows.specs.declared.fault.RowsFault.{RowsFault}
 use Rattle.c62_rows.specs.FaultText.{fault_text as rows_fault_text}
+use Rattle.c62_command.specs.declared.command.Exclusion.{Exclusion}
+use Rattle.c62_command.specs.declared.command.Exclusion.TheVariants as excluded
 use Rattle.c62_command.specs.declared.promise.BadPromise.{BadPromise}
 use Rattle.c62_command.specs.declared.promise.BadPromise.TheVariants as promise
 use Rattle.c62_answer.specs.declared.failure.Failure.{Failure}
@@ -61,8 +63,9 @@ abbrev pub promise_message : BadPromise → List ℕ
 promise_message (promise.Trips number) = trips_message number (codes "bad")
 promise_message promise.Apart = codes "apart: bad\n"
 
-abbrev pub ways_message : List ℕ
-ways_message = codes "words: bad\n"
+abbrev pub exclusion_message : Exclusion → List ℕ
+exclusion_message excluded.Page = codes "error: --html goes with neither --json nor --summary\n"
+exclusion_message excluded.Blocks = codes "error: --blocks limits no run with --pipeline: --cycles does\n"
 
 -- what is told of a failure; clap's own text is left open
 abbrev pub message_of : Failure → Option (List ℕ)
@@ -79,7 +82,7 @@ message_of (failure.NoLoop number) = Some (no_loop number)
 message_of (failure.Words error) = None
 message_of (failure.Setting number) = Some (setting_message number)
 message_of (failure.Promise bad) = Some (promise_message bad)
-message_of failure.Ways = Some ways_message
+message_of (failure.Excluded exclusion) = Some (exclusion_message exclusion)
 message_of failure.Memory = Some (codes "memory\n")
 message_of failure.Input = Some (codes "input\n")
 message_of failure.Output = Some (codes "output\n")

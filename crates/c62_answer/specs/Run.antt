@@ -4,7 +4,7 @@ use Rattle.std.specs.Io.KnownBytes.{Appends, Consumes, Keeps}
 use Rattle.std.specs.Option.{IsSomeAnd}
 use Rattle.clap.specs.Words.{Text}
 use Rattle.c62_answer.specs.declared.failure.Failure.{Failure}
-use Rattle.c62_answer.specs.declared.failure.Failure.TheVariants.{Unread, Unlisted, Unadopted, Unflown, TextPart, ListingPart, PacketsPart, RowsPart, NoListing, NoLoop, Words, Setting, Promise, Ways, Memory, Input, Output}
+use Rattle.c62_answer.specs.declared.failure.Failure.TheVariants.{Unread, Unlisted, Unadopted, Unflown, TextPart, ListingPart, PacketsPart, RowsPart, NoListing, NoLoop, Words, Setting, Promise, Excluded, Memory, Input, Output}
 use Rattle.c62_answer.specs.declared.outcome.Added.{Added}
 use Rattle.c62_answer.specs.declared.outcome.Outcome.{Outcome}
 use Rattle.c62_answer.specs.declared.outcome.Outcome.TheVariants.{Done, Drained, NotSame, Breached, Looped}
@@ -13,6 +13,7 @@ use Rattle.c62_answer.specs.declared.outcome.Breach.TheVariants as breach
 use Rattle.c62_answer.specs.declared.outcome.Reply.{Reply}
 use Rattle.c62_command.specs.declared.command.CommandError.{CommandError}
 use Rattle.c62_command.specs.declared.command.CommandError.TheVariants as command
+use Rattle.c62_command.specs.declared.command.Exclusion.{Exclusion}
 use Rattle.c62_command.specs.declared.promise.BadPromise.{BadPromise}
 use Rattle.c62_command.specs.declared.setting.Setting.{Setting as Given}
 use Rattle.c62_command.specs.declared.setting.Setting.TheVariants as given
@@ -76,8 +77,8 @@ use Rattle.c62_json_check.specs.Checked.{IsCheckDocument}
 use Rattle.c62_json_show.specs.Shown.{blocks_member as shown_members}
 use Rattle.c62_json_adopt.specs.declared.adopted.Drained.{Drained as DrainedTold}
 use Rattle.c62_json_adopt.specs.Adopted.{adopted_members}
-use Rattle.c62_command.specs.CommandLine.{Ask, Listing, Picture, ListingPicture, PacketsPicture, SerialReport, PacketReport, StandingReport, FlightReport, Adoption, Reaching, Document, Verdicts, LoopVerdicts, LoopListing, LoopPicture, LoopReport, IsRefusal, IsUnknown, HasBadSetting, HasBadPromise, HasTwoWays, asked}
-use Rattle.c62_answer.specs.Message.{adopt_message, fault_message, list_message, rows_message, no_listing, no_loop, of_listing, of_text, promise_message, setting_message, ways_message, IsFront, IsToldOf, Telling, Tells, TellsOf, TellsOutcome}
+use Rattle.c62_command.specs.CommandLine.{Ask, Listing, Picture, ListingPicture, PacketsPicture, SerialReport, PacketReport, StandingReport, FlightReport, Adoption, Reaching, Document, Verdicts, LoopVerdicts, LoopListing, LoopPicture, LoopReport, IsRefusal, IsUnknown, HasBadSetting, HasBadPromise, HasExclusion, asked}
+use Rattle.c62_answer.specs.Message.{adopt_message, fault_message, list_message, rows_message, no_listing, no_loop, of_listing, of_text, promise_message, setting_message, exclusion_message, IsFront, IsToldOf, Telling, Tells, TellsOf, TellsOutcome}
 use Rattle.c62_answer.specs.Texts.{SaysProgram, SaysPackets, SaysNoPackets, IsNoProgram, IsNoListing, IsNoPackets, IsNoFlight, IsUnreached}
 use Rattle.c62_answer.specs.Check.{IsCheck, IsNoCheck}
 use Rattle.c62_answer.specs.LoopCheck.{IsFlying, IsLoopCheck, IsNoLoopCheck}
@@ -102,7 +103,7 @@ status_of (NoLoop _) = 1
 status_of (Words _) = 2
 status_of (Setting _) = 2
 status_of (Promise _) = 2
-status_of Ways = 2
+status_of (Excluded _) = 2
 status_of Memory = 3
 status_of Input = 4
 status_of Output = 4
@@ -179,7 +180,7 @@ abbrev pub IsCommandFailure : CommandError → Failure → Type 0
 IsCommandFailure (command.Words error) f = f ≡ Words error
 IsCommandFailure (command.Setting k) f = f ≡ Setting k
 IsCommandFailure (command.Promise bad) f = f ≡ Promise bad
-IsCommandFailure command.Ways f = f ≡ Ways
+IsCommandFailure (command.Excluded exclusion) f = f ≡ Excluded exclusion
 IsCommandFailure command.Memory f = f ≡ Memory
 
 -- at most n known bytes were taken
@@ -573,14 +574,14 @@ IsBadSetting words message = (k : ℕ) × HasBadSetting words k × (message ≡ 
 abbrev pub IsBadPromise : List Text → List ℕ → Type 0
 IsBadPromise words message = (bad : BadPromise) × HasBadPromise words bad × (message ≡ promise_message bad)
 
--- two ways to tell the same are named, which exclude each other
-abbrev pub AreTwoWays : List Text → List ℕ → Type 0
-AreTwoWays words message = HasTwoWays words × (message ≡ ways_message)
+-- options exclude each other, and the message tells which
+abbrev pub IsExclusion : List Text → List ℕ → Type 0
+IsExclusion words message = (exclusion : Exclusion) × HasExclusion words exclusion × (message ≡ exclusion_message exclusion)
 
 abbrev pub IsBadWord : List Text → List ℕ → Type 0
-IsBadWord words message = IsBadSetting words message ⊎ IsBadPromise words message ⊎ AreTwoWays words message
+IsBadWord words message = IsBadSetting words message ⊎ IsBadPromise words message ⊎ IsExclusion words message
 
--- The words ask for nothing: clap doesn't take them, two ways are named, or a setting or a promise is bad, and that is told.
+-- The words ask for nothing: clap doesn't take them, options exclude each other, or a setting or a promise is bad, and that is told.
 abbrev pub AsksNothing : Telling → List Text → Option (List ℕ) → Option (List ℕ) → Type 0
 AsksNothing Told words old new = IsUnknown words ⊎ TellsOf Told (IsBadWord words) old new
 

@@ -21,8 +21,7 @@ use Rattle.c62_show.specs.declared.shown.Shown.{Shown}
 use Rattle.c62_show.specs.declared.limits.Limits.{Limits}
 use Rattle.c62_show.specs.Limits.{AreLimits, ArePlainLimits}
 use Rattle.c62_show.specs.Registers.{TellsLives}
-use Rattle.c62_why.specs.declared.why.Why.{Why}
-use Rattle.c62_why.specs.Why.{AreWhys}
+use Rattle.c62_why.specs.Why.{TellsWhys, critical_from}
 use Rattle.c62_command.specs.declared.command.Packing.{Packing}
 use Rattle.c62_command.specs.declared.command.Showing.{Showing}
 
@@ -80,10 +79,12 @@ AreScheduled packing _ _ = ⊥
 
 -- ---- what is shown
 
--- Where it is asked for, why each instruction that stands on these spots isn't issued a cycle earlier.
-abbrev pub TellsWhys : Bool → Serial → Spots → ℕ → List Why → Type 0
-TellsWhys false block spots cycles whys = whys ≡ []
-TellsWhys true block spots cycles whys = (placed : List Placed) × ArePlaced block spots placed × AreWhys (insns_of block) cycles placed whys
+-- Why each instruction that stands on these spots isn't issued a cycle earlier, where that is asked for, and which are critical.
+pub record AreTold (why : Bool) (block : Serial) (spots : Spots) (shown : Shown) : Type 0 where
+  pub placed : List Placed
+  pub are : ArePlaced block spots placed
+  pub whys : TellsWhys why (insns_of block) shown.packets.cycles placed shown.whys.items
+  pub critical : shown.critical.items ≡ critical_from (insns_of block) shown.packets.cycles 0 placed
 
 -- how short packets could be at best; where the shortest schedule is asked for, a search may tell more
 abbrev pub TellsLimits : (shortest : Bool) → Serial → Limits → Type 0
@@ -94,14 +95,14 @@ TellsLimits true block limits = AreLimits block limits
 pub record IsShown (showing : Showing) (block : Serial) (shown : Shown) : Type 0 where
   pub scheduled : IsScheduled showing.packing block shown.packets
   pub limits : IsSomeAnd shown.limits (TellsLimits showing.packing.shortest block)
-  pub whys : TellsWhys showing.why block scheduled.spots shown.packets.cycles shown.whys.items
+  pub told : AreTold showing.why block scheduled.spots shown
   pub lives : TellsLives showing.registers shown.packets shown.lives
 
 -- what is shown of packets of which a board has these spots
 pub record IsShownOf (showing : Showing) (block : Serial) (own : Spots) (shown : Shown) : Type 0 where
   pub from : ArePacketsFrom showing.packing block own shown.packets
   pub limits : IsSomeAnd shown.limits (TellsLimits showing.packing.shortest block)
-  pub whys : TellsWhys showing.why block from.spots shown.packets.cycles shown.whys.items
+  pub told : AreTold showing.why block from.spots shown
   pub lives : TellsLives showing.registers shown.packets shown.lives
 
 -- block by block

@@ -6,7 +6,7 @@ ghost use Rattle.c62_answer.specs.Run.{status_of, IsCommandFailure, IsReadFailur
 
 use crate::input::InputError;
 use c62_adopt::AdoptFault;
-use c62_command::{BadPromise, CommandError};
+use c62_command::{BadPromise, CommandError, Exclusion};
 use c62_listing_reader::ListFault;
 use c62_read::{Cause, ReadFault};
 use c62_rows::RowsFault;
@@ -42,8 +42,8 @@ pub enum Failure {
     Setting(usize),
     /// This promise says nothing.
     Promise(BadPromise),
-    /// The words name two ways to tell the same, which exclude each other.
-    Ways,
+    /// Two options exclude each other.
+    Excluded(Exclusion),
     /// Memory ran out.
     Memory,
     /// The reader failed.
@@ -64,7 +64,7 @@ impl Failure {
             Failure::PacketsPart(_) | Failure::NoListing => 1,
             Failure::RowsPart(_) | Failure::NoLoop(_) => 1,
             Failure::Words(_) | Failure::Setting(_) | Failure::Promise(_) => 2,
-            Failure::Ways => 2,
+            Failure::Excluded(_) => 2,
             Failure::Memory => 3,
             Failure::Input | Failure::Output => 4,
         }
@@ -182,7 +182,7 @@ impl From<CommandError> for Failure {
             CommandError::Words(error) => Failure::Words(error),
             CommandError::Setting(number) => Failure::Setting(number),
             CommandError::Promise(bad) => Failure::Promise(bad),
-            CommandError::Ways => Failure::Ways,
+            CommandError::Excluded(exclusion) => Failure::Excluded(exclusion),
             CommandError::Memory => Failure::Memory,
         }
     }

@@ -2,14 +2,14 @@
 
 ghost use Rattle.std.specs.Prelude.{◌≡◌, ◌++◌, IfSome, Some, codes, decimal};
 ghost use Rattle.c62_op.specs.Name.{file_letter};
-ghost use Rattle.c62_answer.specs.Message.{added_word, adopt_message, cycles_added, drained_message, fault_message, late_message, list_message, message_of, promise_message, rows_message, setting_message, told_of, trips_message, TellsOutcome};
+ghost use Rattle.c62_answer.specs.Message.{added_word, adopt_message, cycles_added, drained_message, exclusion_message, fault_message, late_message, list_message, message_of, promise_message, rows_message, setting_message, told_of, trips_message, TellsOutcome};
 
 use crate::failure::Failure;
 use crate::outcome::{Added, Outcome};
 use crate::writing::{Refused, show, write_pieces, write_whole};
 use c62_adopt::AdoptFault;
 use c62_adopt_late::Late;
-use c62_command::BadPromise;
+use c62_command::{BadPromise, Exclusion};
 use c62_listing_reader::ListFault;
 use c62_op::Side;
 use c62_read::ReadFault;
@@ -138,6 +138,16 @@ fn tell_promise<E: Write>(errors: &mut E, bad: BadPromise) -> Result<(), Refused
     }
 }
 
+/// Which options exclude each other.
+fn exclusion_text(exclusion: Exclusion) -> &'static str
+    ensures { result.now ≡ exclusion_message exclusion }
+{
+    match exclusion {
+        Exclusion::Page => "error: --html goes with neither --json nor --summary\n",
+        Exclusion::Blocks => "error: --blocks limits no run with --pipeline: --cycles does\n",
+    }
+}
+
 /// Tells what failed, in one line but for clap's text.
 ///
 /// # Errors
@@ -160,7 +170,7 @@ pub fn report<E: Write>(errors: &mut E, failure: &Failure) -> Result<(), Refused
         Failure::Words(error) => show(errors, error),
         Failure::Setting(number) => tell_setting(errors, *number),
         Failure::Promise(bad) => tell_promise(errors, *bad),
-        Failure::Ways => write_whole(errors, b"words: bad\n"),
+        Failure::Excluded(exclusion) => write_whole(errors, exclusion_text(*exclusion).as_bytes()),
         Failure::Memory => write_whole(errors, b"memory\n"),
         Failure::Input => write_whole(errors, b"input\n"),
         Failure::Output => write_whole(errors, b"output\n"),

@@ -2,13 +2,12 @@
 
 ghost use Rattle.std.specs.Thread.{IsSync};
 ghost use Rattle.std.specs.Prelude.{◌≡◌, ◌<◌, ◌≤◌, true, false, length, map, Some, IfOk, IsTrue, OnOk};
-ghost use Rattle.c62_pack.specs.EitherSide.{IsLawfulOnEitherSide};
 ghost use Rattle.c62_sheet.specs.Least.{IsComplete};
 ghost use Rattle.c62_depend.specs.Plan.{insns_of};
 ghost use Rattle.c62_board.specs.State.{IsSound};
 ghost use Rattle.c62_read.specs.declared.limits.TheConstants.{MOST_BLOCKS};
 ghost use Rattle.c62_packet.specs.Packets.{is_closed};
-ghost use Rattle.c62_answer.specs.Schedule.{AreScheduled, AddsPackets, ArePacketsFrom, AreShown, IsMade, IsScheduled, IsShown, IsShownOf, IsTurned, TellsWhys};
+ghost use Rattle.c62_answer.specs.Schedule.{AreScheduled, AddsPackets, ArePacketsFrom, AreShown, IsMade, IsScheduled, IsShown, IsShownOf, IsTurned};
 
 use c62_board::{Board, Turn};
 use c62_command::{Packing, Showing};
@@ -16,10 +15,9 @@ use c62_depend::Plan;
 use c62_pack::{packets_of, placed_at, placed_of};
 use c62_packet::{PacketBlock, Packets};
 use c62_read::{Block, Program};
-use c62_sheet::Spot;
 use c62_shortest::{Schedule, shortest};
 use c62_show::{Shown, limits_of, limits_with, lives_told};
-use c62_why::{Why, whys_of};
+use c62_why::{critical_lines, whys_told};
 use c62_work::{FreeGate, Options, finish, schedule, turns};
 use rayon::current_num_threads;
 use rayon::prelude::*;
@@ -256,40 +254,6 @@ pub fn packets_by_workers<H: AllocGlobal + Threads + Wait + Sync>(
     Ok(gathered(rt.alloc(), made)?)
 }
 
-/// Why each instruction of a complete board's packets isn't issued a cycle earlier, where that is asked for.
-fn whys_told(alloc: Global, board: &Board, cycles: u16, why: bool) -> Result<Vec<Why>, AllocError>
-    requires { IsComplete (insns_of board.now.plan) board.now.spots }
-    ensures { IfOk result (λ whys. TellsWhys why board.now.plan board.now.spots cycles whys.items) }
-{
-    if !why {
-        return Ok(Vec::new(alloc));
-    }
-    let placed = placed_of(alloc, board)?;
-    let whys = whys_of(alloc, board.plan(), cycles, &placed)?;
-    Ok(whys)
-}
-
-/// Why each instruction on lawful spots, a branch to a block on either side, isn't issued a cycle earlier, where that is asked
-/// for.
-fn whys_at(
-    alloc: Global,
-    plan: &Plan,
-    spots: &[Spot],
-    cycles: u16,
-    why: bool,
-) -> Result<Vec<Why>, AllocError>
-    requires { IsLawfulOnEitherSide (insns_of plan.now) (map Some spots.now) }
-    ensures { IfOk result (λ whys. TellsWhys why plan.now (map Some spots.now) cycles whys.items) }
-{
-    if why {
-        let placed = placed_at(alloc, plan, spots)?;
-        let whys = whys_of(alloc, plan, cycles, &placed)?;
-        Ok(whys)
-    } else {
-        Ok(Vec::new(alloc))
-    }
-}
-
 /// What is shown of a complete board.
 #[tactic(auto, using(crate::proofs::Schedules::own_packets))]
 fn shown_own(alloc: Global, board: &Board, showing: Showing) -> Result<Shown, AllocError>
@@ -297,12 +261,18 @@ fn shown_own(alloc: Global, board: &Board, showing: Showing) -> Result<Shown, Al
     requires plain { showing.packing.shortest ≡ false }
     ensures { IfOk result (IsShownOf showing board.now.plan board.now.spots) }
 {
+    let plan = board.plan();
+    let limits = limits_of(alloc, plan)?;
     let packets = packets_of(alloc, board)?;
-    let whys = whys_told(alloc, board, packets.length(), showing.why)?;
+    let placed = placed_of(alloc, board)?;
+    let cycles = packets.length();
+    let whys = whys_told(alloc, plan, cycles, &placed, showing.why)?;
+    let critical = critical_lines(alloc, plan, cycles, &placed)?;
     let lives = lives_told(alloc, &packets, showing.registers)?;
     Ok(Shown {
-        limits: Some(limits_of(alloc, board.plan())?),
+        limits: Some(limits),
         packets,
+        critical,
         whys,
         lives,
     })
@@ -315,13 +285,18 @@ fn shown_shortest(alloc: Global, board: &Board, showing: Showing) -> Result<Show
     ensures { IfOk result (IsShownOf showing board.now.plan board.now.spots) }
 {
     let found = shortest(alloc, board, u32::from(showing.packing.choices))?;
-    let limits = limits_with(alloc, board.plan(), found.least)?;
+    let plan = board.plan();
+    let limits = limits_with(alloc, plan, found.least)?;
     let Schedule { spots, packets } = found.schedule;
-    let whys = whys_at(alloc, board.plan(), &spots, packets.length(), showing.why)?;
+    let placed = placed_at(alloc, plan, &spots)?;
+    let cycles = packets.length();
+    let whys = whys_told(alloc, plan, cycles, &placed, showing.why)?;
+    let critical = critical_lines(alloc, plan, cycles, &placed)?;
     let lives = lives_told(alloc, &packets, showing.registers)?;
     Ok(Shown {
         limits: Some(limits),
         packets,
+        critical,
         whys,
         lives,
     })

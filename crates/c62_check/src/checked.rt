@@ -67,7 +67,7 @@ fn is_same_label(a: Option<&Label>, b: Option<&Label>) -> bool
 }
 
 /// Whether there are both, with the same label, or neither.
-fn is_same_block(listed: Option<&PacketBlock>, block: Option<&Block>) -> bool
+pub fn is_same_block(listed: Option<&PacketBlock>, block: Option<&Block>) -> bool
     ensures { IsTrue result ↔ (option_map (λ one. one.label) (option_copied listed.entry) ≡ option_map (λ other. other.label) (option_copied block.entry)) }
 {
     match (listed, block) {
@@ -92,8 +92,12 @@ pub fn first_other(blocks: &[Block], packets: &[PacketBlock]) -> Option<usize>
 }
 
 /// Appends the line of a block that differs in its label, or that only one of the two has.
+///
+/// # Errors
+///
+/// `AllocError` where memory ran out; the bytes are then unspecified.
 #[tactic(auto, unfolding(crate::specs::Lines::other_words))]
-fn push_other(
+pub fn push_other(
     out: &mut Vec<u8>,
     number: u64,
     listed: Option<&PacketBlock>,

@@ -8,7 +8,7 @@ mod lines;
 mod matched;
 mod verdict;
 
-pub use checked::{Checked, check, first_other};
+pub use checked::{Checked, check, first_other, is_same_block, push_other};
 pub use early::Early;
 pub use lines::{push_verdict, push_words};
 pub use verdict::{Verdict, check_block};

@@ -14,8 +14,9 @@ use Rattle.c62_command.specs.Promises.{IsBadPromise, all_trips, apart_of, trips_
 use Rattle.c62_command.proofs.PromiseLemmas.{none_said}
 use Rattle.c62_command.specs.CommandLine.{Ask, Listing, HasBadPromise, HasBadPromiseIn, HasBadSetting, HasFirstBad}
 use Rattle.c62_command.specs.CommandLine.{IsRefusal, IsRefusalIn, IsUnknown, Adoption, loops_asked, ask_in, asked}
-use Rattle.c62_command.specs.CommandLine.{HasTwoWays}
-use Rattle.c62_command.specs.CommandLine.{has_two_ways, names_two_ways, rendered, rendering_in, rendering_of, what_in}
+use Rattle.c62_command.specs.CommandLine.{HasExclusion, exclusion_in, exclusion_of, unless_excluded}
+use Rattle.c62_command.specs.CommandLine.{rendered, rendering_in, rendering_of, what_in}
+use Rattle.c62_command.specs.declared.command.Exclusion.{Exclusion}
 use Rattle.c62_command.specs.declared.command.Rendering.{Rendering}
 use Rattle.c62_command.specs.CommandLine.{check_asked, is_set, plain_asked, plain_packing}
 use Rattle.c62_command.specs.CommandLine.{packing_of, promised_asked, reaching, report_asked, serial_asked}
@@ -166,27 +167,27 @@ pub none_told : (found : Option (Text × List Row)) (ask : Ask) → found ≡ No
 unfolding ask_in
 none_told found ask none is = rw (none, is) refl
 
--- what is asked for where no two ways are named
-one_way : (found : Option (Text × List Row)) → has_two_ways found ≡ false
+-- what is asked for where no options exclude each other
+one_way : (found : Option (Text × List Row)) → exclusion_in found ≡ None
     → ask_in found ≡ option_map (rendered (rendering_in found)) (what_in found)
 unfolding ask_in
 one_way found one = rw one refl
 
 -- where nothing is asked for, nothing is, in whichever way it is to be told
-never : (two : Bool) (tell : Ask → Ask) → (if two then None else option_map tell None) ≡ None
-never true tell = refl
-never false tell = refl
+never : (excluded : Option Exclusion) (tell : Ask → Ask) → unless_excluded excluded (option_map tell None) ≡ None
+never None tell = refl
+never (Some exclusion) tell = refl
 
 none_in : (found : Option (Text × List Row)) → what_in found ≡ None → ask_in found ≡ None
 unfolding ask_in
 none_in found none =
-    ap (λ (what : Option Ask). if has_two_ways found then None
-    else option_map (rendered (rendering_in found)) what) none
-    ∙ never (has_two_ways found) (rendered (rendering_in found))
+    ap (λ (what : Option Ask). unless_excluded (exclusion_in found)
+    (option_map (rendered (rendering_in found)) what)) none
+    ∙ never (exclusion_in found) (rendered (rendering_in found))
 
 -- what a subcommand asks for, told so
 pub told_so : (name : Text) (rows : List Row) (ask : Ask) (rendering : Rendering)
-    → names_two_ways rows ≡ false → what_in (Some (name, rows)) ≡ Some ask → rendering ≡ rendering_of rows
+    → exclusion_of rows ≡ None → what_in (Some (name, rows)) ≡ Some ask → rendering ≡ rendering_of rows
     → ask_in (Some (name, rows)) ≡ Some (rendered rendering ask)
 told_so name rows ask rendering one is same =
     one_way (Some (name, rows)) one
@@ -200,10 +201,10 @@ asked-bad-promise (word ∷ words) bad e =
     ap (λ (kinds : Kinds). unless_fault kinds (ask_in (subcommand_of tool_app (word ∷ words)))) e.1
     ∙ none_in (subcommand_of tool_app (word ∷ words)) (no_loops_in (subcommand_of tool_app (word ∷ words)) bad e.2)
 
-pub asked-two-ways : (words : List Text) → HasTwoWays words → asked words ≡ None
+pub asked-excluded : (words : List Text) (exclusion : Exclusion) → HasExclusion words exclusion → asked words ≡ None
 unfolding asked ask_in
-asked-two-ways [] e = absurd (omega (arith, e.0))
-asked-two-ways (word ∷ words) e =
+asked-excluded [] exclusion e = absurd (omega (arith, e.0))
+asked-excluded (word ∷ words) exclusion e =
     ap (λ (kinds : Kinds). unless_fault kinds (ask_in (subcommand_of tool_app (word ∷ words)))) e.1
     ∙ rw (e.2) refl
 
@@ -215,7 +216,7 @@ refused_in text [] error some taken is = absurd (some refl)
 refused_in text (word ∷ words) (refused.Words e) some taken is = absurd is
 refused_in text (word ∷ words) (refused.Setting k) some taken is = (omega arith, taken, is)
 refused_in text (word ∷ words) (refused.Promise bad) some taken is = (omega arith, taken, is)
-refused_in text (word ∷ words) refused.Ways some taken is = (omega arith, taken, is)
+refused_in text (word ∷ words) (refused.Excluded exclusion) some taken is = (omega arith, taken, is)
 refused_in text (word ∷ words) refused.Memory some taken is = tt
 
 pub asked-bad : (words : List Text) (k : ℕ) → HasBadSetting words k → asked words ≡ None

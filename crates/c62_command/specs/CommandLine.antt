@@ -27,6 +27,8 @@ use Rattle.c62_command.specs.declared.command.Drawing.{Drawing}
 use Rattle.c62_command.specs.declared.command.Drawing.TheVariants.{Columns, Page}
 use Rattle.c62_command.specs.declared.command.Form.{Form}
 use Rattle.c62_command.specs.declared.command.Form.TheVariants.{Listed, Written}
+use Rattle.c62_command.specs.declared.command.Exclusion.{Exclusion}
+use Rattle.c62_command.specs.declared.command.Exclusion.TheVariants.{Page as InPage, Blocks as InBlocks}
 use Rattle.c62_command.specs.declared.command.CommandError.{CommandError}
 use Rattle.c62_command.specs.declared.command.CommandError.TheVariants as refused
 use Rattle.c62_command.specs.declared.command.Request.{Request}
@@ -467,13 +469,29 @@ rendering_in (Some (name, rows)) = rendering_of rows
 abbrev pub names_two_ways : List Row → Bool
 names_two_ways rows = is_page rows && (is_set (codes "json") rows || is_set (codes "summary") rows)
 
-abbrev pub has_two_ways : Option (Text × List Row) → Bool
-has_two_ways None = false
-has_two_ways (Some (name, rows)) = names_two_ways rows
+-- a limit of blocks is named
+abbrev pub limits_blocks : List Row → Bool
+limits_blocks rows = option_map_or (λ _. true) (first_of (codes "blocks") rows) false
 
--- what is asked for, and how it is told: nothing where two ways are named, which exclude each other
+-- which options exclude each other: two ways to tell the same, or pipelined loops and a limit of blocks
+abbrev pub exclusion_of : List Row → Option Exclusion
+exclusion_of rows =
+    if names_two_ways rows then Some InPage
+    else (if is_set (codes "pipeline") rows && limits_blocks rows then Some InBlocks
+    else None)
+
+abbrev pub exclusion_in : Option (Text × List Row) → Option Exclusion
+exclusion_in None = None
+exclusion_in (Some (name, rows)) = exclusion_of rows
+
+-- what is asked for where no options exclude each other
+abbrev pub unless_excluded : Option Exclusion → Option Ask → Option Ask
+unless_excluded None ask = ask
+unless_excluded (Some exclusion) ask = None
+
+-- what is asked for, and how it is told: nothing where options exclude each other
 unfoldable pub ask_in : Option (Text × List Row) → Option Ask
-ask_in found = if has_two_ways found then None else option_map (rendered (rendering_in found)) (what_in found)
+ask_in found = unless_excluded (exclusion_in found) (option_map (rendered (rendering_in found)) (what_in found))
 
 abbrev pub unless_fault : Kinds → Option Ask → Option Ask
 unless_fault [] ask = ask
@@ -528,9 +546,9 @@ HasBadPromiseIn (Some (name, rows)) bad = HasBadPromiseAmong name rows bad
 abbrev pub HasBadPromise : List Text → BadPromise → Type 0
 HasBadPromise words bad = (0 < length words) × (fault_of tool_app words ≡ []) × HasBadPromiseIn (subcommand_of tool_app words) bad
 
--- clap takes the words, and they name two ways to tell the same
-abbrev pub HasTwoWays : List Text → Type 0
-HasTwoWays words = (0 < length words) × (fault_of tool_app words ≡ []) × (has_two_ways (subcommand_of tool_app words) ≡ true)
+-- clap takes the words, and these options exclude each other
+abbrev pub HasExclusion : List Text → Exclusion → Type 0
+HasExclusion words exclusion = (0 < length words) × (fault_of tool_app words ≡ []) × (exclusion_in (subcommand_of tool_app words) ≡ Some exclusion)
 
 -- an error of clap that is no want of memory says that clap doesn't take the words
 abbrev pub IsBlame : List Text → Error → Type 0
@@ -540,13 +558,12 @@ IsBlame words error = kind_of error ≢ OutOfMemory → fault_of tool_app words 
 abbrev pub IsUnknown : List Text → Type 0
 IsUnknown words = (0 < length words) × (fault_of tool_app words ≢ [])
 
--- why words ask for nothing: clap doesn't take them, they name two ways to tell the same, or a setting or a promise is bad, unless memory
--- ran out
+-- why words ask for nothing: clap doesn't take them, options exclude each other, or a setting or a promise is bad, unless memory ran out
 abbrev pub IsRefusal : CommandError → List Text → Type 0
 IsRefusal (refused.Words _) words = IsUnknown words
 IsRefusal (refused.Setting k) words = HasBadSetting words k
 IsRefusal (refused.Promise bad) words = HasBadPromise words bad
-IsRefusal refused.Ways words = HasTwoWays words
+IsRefusal (refused.Excluded exclusion) words = HasExclusion words exclusion
 IsRefusal refused.Memory words = Unit {0}
 
 -- what a parse that failed is
@@ -559,7 +576,7 @@ abbrev pub IsRefusalIn : Option (Text × List Row) → CommandError → Type 0
 IsRefusalIn found (refused.Words _) = ⊥
 IsRefusalIn found (refused.Setting k) = HasFirstBad found k
 IsRefusalIn found (refused.Promise bad) = HasBadPromiseIn found bad
-IsRefusalIn found refused.Ways = has_two_ways found ≡ true
+IsRefusalIn found (refused.Excluded exclusion) = exclusion_in found ≡ Some exclusion
 IsRefusalIn found refused.Memory = Unit {0}
 
 -- why a check asks for nothing: only one of loops has promises

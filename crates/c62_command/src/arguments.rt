@@ -8,14 +8,11 @@ use crate::checking::{apart_option, with_loops, with_pipeline};
 use clap::{Arg, ArgAction, Command, value_parser};
 use std::alloc::{AllocError, Global};
 
-/// What the help of each command ends with: an example, and where more is told.
-macro_rules! ending {
-    ($example:literal) => {
-        ending!("", $example)
-    };
-    ($above:literal, $example:literal) => {
+/// What each help ends with: an example, and where more is said.
+macro_rules! closing {
+    ($($above:literal,)* ; $example:literal) => {
         concat!(
-            $above,
+            $($above,)*
             "Example:\n  ",
             $example,
             "\n\n`c62 help status` tells where texts come from, and what each status means."
@@ -23,12 +20,46 @@ macro_rules! ending {
     };
 }
 
-/// The same of a command whose run can be shown as it goes. These options are read before clap reads the others.
+/// The same of a command. These options, and those above them, are read before clap reads the others.
+macro_rules! ending {
+    ($($above:literal,)* ; $example:literal) => {
+        closing!(
+            $($above,)*
+            "Options of each command that reads a text:\n",
+            "      --isa <SET>        Takes the instructions of this set, core or full; core where none is given\n",
+            "      --explain          Says below the line that refuses a text what is wrong, and what helps\n",
+            "      --settings <FILE>  Takes the words of a file, in its place\n",
+            "  -o <FILE>              Writes the answer to a file\n\n",
+            ; $example
+        )
+    };
+}
+
+/// The same of a command that runs a text.
+macro_rules! ending_run {
+    ($($above:literal,)* ; $example:literal) => {
+        ending!(
+            "Options of memory:\n",
+            "      --load <ADDRESS=FILE>         Puts the bytes of a file into memory\n",
+            "      --base <ADDRESS>              Begins memory at this address, a multiple of 4; at 0 where none is given\n",
+            "      --print <ADDRESS+LENGTH>      Prints words of memory below the report; with :h, :b, :d, :hd or :bd halves, bytes or decimals\n",
+            "      --dump <ADDRESS+LENGTH=FILE>  Writes memory to a file, as it is at the end of the run\n\n",
+            $($above,)*
+            ; $example
+        )
+    };
+}
+
+/// The same of a command whose run can be shown as it goes.
 macro_rules! ending_traced {
     ($example:literal) => {
-        ending!(
-            "To show the run as it goes:\n      --trace[=<FILE>]     Writes a line an event, to standard error or to a file\n      --vcd <FILE>         Writes a waveform, which GTKWave opens\n      --from-cycle <N>     The first cycle that is shown; 0 where none is given\n      --cycles-traced <N>  How many cycles are shown; 10000 where none is given\n\n",
-            $example
+        ending_run!(
+            "To show the run as it goes:\n",
+            "      --trace[=<FILE>]     Writes a line an event, to standard error or to a file\n",
+            "      --vcd <FILE>         Writes a waveform, which GTKWave opens\n",
+            "      --from-cycle <N>     The first cycle that is shown; 0 where none is given\n",
+            "      --cycles-traced <N>  How many cycles are shown; 10000 where none is given\n\n",
+            ; $example
         )
     };
 }
@@ -363,7 +394,7 @@ fn pack_command<'a>(alloc: Global) -> Result<Command<'a>, AllocError>
         .override_usage(
             "c62 pack [--turns] [--eject <N>] [--shortest] [--search <N>] [--json] [-o <FILE>] [FILE]\n       c62 pack --pipeline [--trips <L=N>]... [--apart <REG,REG,..>] [--verbose] [--json] [-o <FILE>] [FILE]",
         )
-        .after_help(ending!("c62 pack --pipeline --trips LOOP=8 kernel.s"));
+        .after_help(ending!(; "c62 pack --pipeline --trips LOOP=8 kernel.s"));
     with_told_pipeline(alloc, with_packing(alloc, command)?)?.arg(json_flag(alloc))
 }
 
@@ -376,7 +407,7 @@ fn show_command<'a>(alloc: Global) -> Result<Command<'a>, AllocError>
         .override_usage(
             "c62 show [--why] [--registers] [--summary] [--turns] [--eject <N>] [--shortest] [--search <N>] [--json|--html] [-o <FILE>] [FILE]\n       c62 show --pipeline [--trips <L=N>]... [--apart <REG,REG,..>] [--json|--html] [-o <FILE>] [FILE]\n       c62 show --listing|--packets [--why] [--registers] [--summary] [--json|--html] [-o <FILE>] [FILE]",
         )
-        .after_help(ending!("c62 show --why kernel.s"));
+        .after_help(ending!(; "c62 show --why kernel.s"));
     let command = with_pipeline(alloc, with_packing(alloc, command)?)?;
     with_details(alloc, with_forms(alloc, command)?)
 }
@@ -390,7 +421,7 @@ fn run_command<'a>(alloc: Global) -> Result<Command<'a>, AllocError>
         .override_usage(
             "c62 run [--turns] [--eject <N>] [--shortest] [--search <N>] [--blocks <N>] [--profile] [--strict] [--json] [-o <FILE>] [FILE] [SETTING]...\n       c62 run --pipeline [--trips <L=N>]... [--apart <REG,REG,..>] [--verbose] [--cycles <N>] [--profile] [--strict] [--json] [-o <FILE>] [FILE] [SETTING]...",
         )
-        .after_help(ending!("c62 run kernel.s A4=8 @8=99"));
+        .after_help(ending_run!(; "c62 run kernel.s A4=8 @8=99"));
     with_start(
         alloc,
         with_pipelined_run(alloc, with_packing(alloc, command)?)?,
@@ -406,7 +437,7 @@ fn serial_command<'a>(alloc: Global) -> Result<Command<'a>, AllocError>
         .override_usage(
             "c62 serial [--apart <REG,REG,..>] [--blocks <N>] [--profile] [--strict] [--json] [-o <FILE>] [FILE] [SETTING]...",
         )
-        .after_help(ending!("c62 serial kernel.s A4=8 @8=99"));
+        .after_help(ending_run!(; "c62 serial kernel.s A4=8 @8=99"));
     with_start(alloc, command.arg(apart_option(alloc))?)
 }
 
@@ -445,7 +476,7 @@ fn adopt_command<'a>(alloc: Global) -> Result<Command<'a>, AllocError>
     Command::new(alloc, "adopt")
         .about("Reads packets as they are written for an assembler and writes their listing")
         .override_usage("c62 adopt [--from <NAME>] [--drain] [--json] [-o <FILE>] [FILE]")
-        .after_help(ending!(
+        .after_help(ending!(;
             "c62 adopt hand.asm --drain  (4 cycles added; A5 was read below line 2 before it landed)"
         ))
         .arg(reach_option(alloc))?
@@ -462,7 +493,7 @@ fn check_command<'a>(alloc: Global) -> Result<Command<'a>, AllocError>
         .override_usage(
             "c62 check [--packets] [--json] [-o <FILE>] <TEXT> <LISTING>\n       c62 check [--packets] [--json] [-o <FILE>] [FILE]  (both in one, with a line `---` between them)\n       c62 check --loops [--trips <L=N>]... [--apart <REG,REG,..>] [--json] [-o <FILE>] <TEXT> <PACKETS>",
         )
-        .after_help(ending!("c62 check kernel.s hand.lst"))
+        .after_help(ending!(; "c62 check kernel.s hand.lst"))
         .arg(written_flag(alloc))?;
     with_loops(alloc, command)?.arg(json_flag(alloc))
 }
@@ -475,9 +506,13 @@ fn bare_command<'a>(alloc: Global) -> Command<'a>
     Command::new(alloc, "c62")
         .about("Packs and runs TMS320C62x instructions")
         .override_usage("c62 <COMMAND>\n       c62              (this is c62 pack --turns)")
-        .after_help(ending!(
-            "`c62 lint kernel.s` prints all faults of a text, and `c62 explain BadUnit` says what a\nfault is; --explain behind a command says what is wrong with its text.\n\n`--isa full` behind a command takes all instructions of the C62x's integer core. Without it\nc62 knows 41 of them.\n\n",
-            "c62 run kernel.s A4=8"
+        .after_help(closing!(
+            "More commands:\n",
+            "  lint     Prints the first fault of each faulty line of a text\n",
+            "  explain  Prints what a fault, a packet rule, or a word of check or show is\n\n",
+            "`c62 help COMMAND` lists the options of a command. --explain says what is wrong with its text, and\n",
+            "--isa full takes all instructions of the C62x's integer core: without it c62 knows 41 of them.\n\n",
+            ; "c62 run kernel.s A4=8"
         ))
         .no_binary_name(true)
         .subcommand_required(true)

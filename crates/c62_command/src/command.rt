@@ -3,7 +3,7 @@
 ghost use Rattle.std.specs.Prelude.{◌≡◌, IfOk, IfErr, Some, false, map, [], codes, option_map};
 ghost use Rattle.std.specs.Str.{bytes_eq};
 ghost use Rattle.clap.specs.Words.{first_of, subcommand_of, subcommand_rows_of, fault_of};
-ghost use Rattle.c62_command.specs.CommandLine.{form_of, tool_app, is_set, blocks_of, cycles_of, budget_of, packing_of, showing_of, show_asked, found_rows, words_of, named_rows, ask_in, ask_of, ask_told, drawing_of, is_page, names_two_ways, what_in, rendering_of, plain_packing, Listing, pipelined_asked, plain_asked, asked, IsBadIn, IsBlame, IsRefusal, IsWordsError, IsSettingError, IsPromiseError, IsRefusalIn, course_of, choices_of, asks_shortest, flight_course_of, report_asked, SerialReport};
+ghost use Rattle.c62_command.specs.CommandLine.{form_of, tool_app, is_set, blocks_of, cycles_of, budget_of, packing_of, showing_of, show_asked, found_rows, words_of, named_rows, ask_in, ask_of, ask_told, drawing_of, is_page, exclusion_of, limits_blocks, names_two_ways, what_in, rendering_of, plain_packing, Listing, pipelined_asked, plain_asked, asked, IsBadIn, IsBlame, IsRefusal, IsWordsError, IsSettingError, IsPromiseError, IsRefusalIn, course_of, choices_of, asks_shortest, flight_course_of, report_asked, SerialReport};
 ghost use Rattle.c62_command.specs.Promises.{IsPromiseErrorIn, all_trips, apart_of, trips_of, trips_words};
 ghost use Rattle.c62_command.specs.Settings.{AreSettings, IsBadAmong, settings_of};
 
@@ -162,6 +162,15 @@ pub struct Command {
     pub rendering: Rendering,
 }
 
+/// Options of one command that exclude each other.
+#[derive(Clone, Copy, PartialEq, Eq, Debug)]
+pub enum Exclusion {
+    /// A page, and a document or the heads alone.
+    Page,
+    /// Pipelined loops and a limit of blocks: such a run has a limit of cycles.
+    Blocks,
+}
+
 /// Why words ask for nothing.
 #[derive(Debug, Drop)]
 pub enum CommandError {
@@ -171,8 +180,8 @@ pub enum CommandError {
     Setting(usize),
     /// This promise says nothing.
     Promise(BadPromise),
-    /// Two ways are named to tell the same, which exclude each other.
-    Ways,
+    /// Two options exclude each other.
+    Excluded(Exclusion),
     /// Memory ran out.
     Memory,
 }
@@ -591,19 +600,42 @@ fn names_two_ways(matches: &ArgMatches<'_>) -> bool
     is_page(matches) && (is_set(matches, "json") || is_set(matches, "summary"))
 }
 
+/// Whether a limit of blocks is named.
+fn limits_blocks(matches: &ArgMatches<'_>) -> bool
+    ensures { result ≡ limits_blocks (found_rows matches.now) }
+{
+    match matches.get_str("blocks") {
+        Some(_) => true,
+        None => false,
+    }
+}
+
+/// Which options exclude each other.
+fn exclusion_of(matches: &ArgMatches<'_>) -> Option<Exclusion>
+    ensures { result ≡ exclusion_of (found_rows matches.now) }
+{
+    if names_two_ways(matches) {
+        Some(Exclusion::Page)
+    } else if is_set(matches, "pipeline") && limits_blocks(matches) {
+        Some(Exclusion::Blocks)
+    } else {
+        None
+    }
+}
+
 /// What any subcommand asks for, and how it is to be told.
 #[tactic(auto, using(crate::proofs::Asking::told_so))]
 fn command_named(alloc: Global, name: &str, found: &ArgMatches<'_>) -> Result<Command, CommandError>
     ensures ok { IfOk result (λ command. ask_in (named_rows name.now found.now) ≡ Some (ask_told command)) }
     ensures err { IfErr result (IsRefusalIn (named_rows name.now found.now)) }
 {
-    if names_two_ways(found) {
-        return Err(CommandError::Ways);
+    match exclusion_of(found) {
+        Some(exclusion) => Err(CommandError::Excluded(exclusion)),
+        None => Ok(Command {
+            request: request_of(alloc, name, found)?,
+            rendering: rendering_found(found),
+        }),
     }
-    Ok(Command {
-        request: request_of(alloc, name, found)?,
-        rendering: rendering_found(found),
-    })
 }
 
 /// What the subcommand that was read asks for.
@@ -622,7 +654,7 @@ fn command_in(alloc: Global, matches: &ArgMatches<'_>) -> Result<Command, Comman
 ///
 /// # Errors
 ///
-/// `Words` only where clap doesn't take the words, `Ways` only where clap takes them and they name two ways to tell the same,
+/// `Words` only where clap doesn't take the words, `Excluded` only where clap takes them and two options exclude each other,
 /// `Setting` only where clap takes them and that setting is the first bad one, `Promise` only where clap takes them and that promise
 /// is the first bad one, and `Memory` where memory ran out, which may come
 /// whatever the words are.

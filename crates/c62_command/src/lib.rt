@@ -12,8 +12,8 @@ mod setting;
 
 pub use blamed::{base_given, setting_at};
 pub use command::{
-    Adopting, Command, CommandError, Course, Drawing, Flight, Form, Looping, Packing, Rendering,
-    Request, Showing, Start, command_of,
+    Adopting, Command, CommandError, Course, Drawing, Exclusion, Flight, Form, Looping, Packing,
+    Rendering, Request, Showing, Start, command_of,
 };
 pub use flight::{FlightCourse, FlightStart};
 pub use laws::{prints_are_of_memory, takes_limits};

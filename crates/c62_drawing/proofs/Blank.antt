@@ -1,5 +1,5 @@
 -- What a run is drawn of on a blank sheet is there, and a sheet that was blank has it.
-use Rattle.std.proofs.Common.{◌≡◌, ◌∙◌, Bool, true, false, inl, inr, ℕ, List, [], ◌++◌, take, Option, Some, None}
+use Rattle.std.proofs.Common.{◌≡◌, ◌∙◌, Bool, Ok, Err, inl, inr, ℕ, List, [], ◌++◌, take, Option, Some, None}
 use Rattle.std.proofs.Common.{ap, refl, sym}
 use Rattle.std.specs.Prelude.{option_map}
 use Rattle.std.specs.Io.KnownBytes.{Appends}
@@ -17,7 +17,7 @@ use Rattle.c62_command.specs.declared.command.Request.TheVariants as request
 use Rattle.c62_command.specs.declared.flight.FlightCourse.{FlightCourse}
 use Rattle.c62_trace.specs.declared.view.Window.{Window}
 use Rattle.c62_trace.specs.Event.{Entry}
-use Rattle.c62_trace.specs.Stream.{IsTold}
+use Rattle.c62_trace.specs.Stream.{Sent, IsTold}
 use Rattle.c62_drawing.specs.declared.draw.Drawn.{Drawn}
 use Rattle.c62_drawing.specs.declared.draw.Drawn.TheVariants.{Trace, Wave}
 use Rattle.c62_drawing.specs.declared.run.Traced.{Traced}
@@ -38,13 +38,13 @@ appended (Some xs) (Some ys) bytes appends blank =
     let none : xs ≡ [] = cc in
     ap (λ (v : List ℕ). Some v) (appends ∙ ap (λ (v : List ℕ). v ++ bytes) none)
 
-told_blank : (whole : Bool) (old new : Option (List ℕ)) (text : List ℕ) → IsTold whole old new text
+told_blank : (whole : Sent) (old new : Option (List ℕ)) (text : List ℕ) → IsTold whole old new text
     → OnBlank (λ o n. IsTold whole o n text) old new
-told_blank true old new text told = (text, refl, appended old new text told)
-told_blank false old new text told = (take told.0 text, (told.0, refl), appended old new (take told.0 text) told.1)
+told_blank (Ok done) old new text told = (text, refl, appended old new text told)
+told_blank (Err refused) old new text told = (take told.0 text, (told.0, refl), appended old new (take told.0 text) told.1)
 
 gets_blank : (drawn : Drawn) (window : Window) (names : List (Option Name)) (opening : Machine) (cycles : ℕ)
-    (log : List Entry) (whole : Bool) (old new : Option (List ℕ))
+    (log : List Entry) (whole : Sent) (old new : Option (List ℕ))
     → Gets drawn window names opening cycles log whole old new
     → OnBlank (Gets drawn window names opening cycles log whole) old new
 gets_blank Trace window names opening cycles log whole old new gets =
@@ -62,7 +62,7 @@ gets_blank Trace window names opening cycles log whole old new gets =
 gets_blank Wave window names opening cycles log whole old new gets = told_blank whole old new _ gets
 
 packets_blank : (drawn : Drawn) (window : Window) (packets : List Packed) (course : Course) (settings : List Setting)
-    (whole : Bool) (old new : Option (List ℕ))
+    (whole : Sent) (old new : Option (List ℕ))
     → DrawsPackets drawn window packets course settings whole old new
     → OnBlank (DrawsPackets drawn window packets course settings whole) old new
 packets_blank drawn window packets course settings whole old new d =
@@ -82,7 +82,7 @@ packets_blank drawn window packets course settings whole old new d =
     )
 
 flight_blank : (drawn : Drawn) (window : Window) (text : FlightText) (labels : List (Name × ℕ)) (first : ℕ)
-    (course : FlightCourse) (settings : List Setting) (whole : Bool) (old new : Option (List ℕ))
+    (course : FlightCourse) (settings : List Setting) (whole : Sent) (old new : Option (List ℕ))
     → DrawsFlight drawn window text labels first course settings whole old new
     → OnBlank (DrawsFlight drawn window text labels first course settings whole) old new
 flight_blank drawn window text labels first course settings whole old new d =

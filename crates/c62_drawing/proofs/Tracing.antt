@@ -13,6 +13,7 @@ use Rattle.c62_command.specs.declared.command.Course.{Course}
 use Rattle.c62_command.specs.declared.command.Form.{Form}
 use Rattle.c62_command.specs.declared.flight.FlightCourse.{FlightCourse}
 use Rattle.c62_trace.specs.declared.view.Window.{Window}
+use Rattle.c62_trace.specs.Stream.{Sent}
 use Rattle.c62_drawing.specs.declared.draw.Drawn.{Drawn}
 use Rattle.c62_drawing.specs.declared.run.Traced.{Traced}
 use Rattle.c62_drawing.specs.declared.run.Traced.TheVariants.{Nothing}
@@ -23,7 +24,7 @@ use Rattle.c62_op.specs.declared.set.InstructionSet.{InstructionSet}
 pub standing_some : (isa : InstructionSet) (drawn : Drawn) (window : Window) (form : Form) (course : Course)
     (settings : List Setting)
     (text : List ℕ)
-    (packets : List Packed) (whole : Bool) (old new : Option (List ℕ))
+    (packets : List Packed) (whole : Sent) (old new : Option (List ℕ))
     → FindsPackets isa form text (Some packets) → DrawsPackets drawn window packets course settings whole old new
     → DrawsStanding isa drawn window form course settings text (of_whole whole) old new
 standing_some isa drawn window form course settings text packets whole old new says traces =
@@ -39,7 +40,7 @@ standing_none isa drawn window form course settings text stream none = inr (none
 pub flying_some : (isa : InstructionSet) (drawn : Drawn) (window : Window) (alone : Bool) (from : Option Text)
     (course : FlightCourse)
     (settings : List Setting)
-    (text : List ℕ) (begun : Begun) (whole : Bool) (old new : Option (List ℕ))
+    (text : List ℕ) (begun : Begun) (whole : Sent) (old new : Option (List ℕ))
     → FindsFlight isa alone from text (Some begun)
     → DrawsFlight drawn window (text_of begun.rows) begun.labels.entries begun.first course settings whole old new
     → DrawsFlying isa drawn window alone from course settings text (of_whole whole) old new
@@ -62,7 +63,7 @@ both_of (Err e) P Q p q = absurd p
 
 pub standing_taken : (isa : InstructionSet) {E : Type 0} (drawn : Drawn) (window : Window) (form : Form)
     (course : Course)
-    (settings : List Setting) (text : List ℕ) (packets : List Packed) (whole : Result Bool E) (taken : Result Traced E)
+    (settings : List Setting) (text : List ℕ) (packets : List Packed) (whole : Result Sent E) (taken : Result Traced E)
     (old new : Option (List ℕ))
     → FindsPackets isa form text (Some packets)
     → IfOk whole (λ w. DrawsPackets drawn window packets course settings w old new)
@@ -76,7 +77,7 @@ standing_taken isa drawn window form course settings text packets whole (Err e) 
 
 pub flying_taken : (isa : InstructionSet) {E : Type 0} (drawn : Drawn) (window : Window) (alone : Bool)
     (from : Option Text)
-    (course : FlightCourse) (settings : List Setting) (text : List ℕ) (begun : Begun) (whole : Result Bool E)
+    (course : FlightCourse) (settings : List Setting) (text : List ℕ) (begun : Begun) (whole : Result Sent E)
     (taken : Result Traced E) (old new : Option (List ℕ))
     → FindsFlight isa alone from text (Some begun)
     → IfOk whole (λ w. DrawsFlight drawn window (text_of begun.rows) begun.labels.entries begun.first course settings w

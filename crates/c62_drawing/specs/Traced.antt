@@ -1,5 +1,5 @@
 -- What a stream gets of the trace or the waveform of a run from zeros with settings (docs/TRACE.md, docs/WAVE.md).
-use Rattle.std.specs.Prelude.{◌≡◌, ◌⊎◌, ℕ, ◌+◌, Bool, List, map, Option, Some, None, option_map, if◌then◌else◌}
+use Rattle.std.specs.Prelude.{◌≡◌, ◌⊎◌, ℕ, ◌+◌, Bool, List, map, Option, Some, None, Ok, Err, option_map}
 use Rattle.clap.specs.Words.{Text}
 use Rattle.c62_read.specs.Program.{Name}
 use Rattle.c62_serial.specs.declared.chain.Chain.{Chain}
@@ -22,7 +22,7 @@ use Rattle.c62_trace.specs.declared.view.Window.{Window}
 use Rattle.c62_trace.specs.declared.view.View.{View}
 use Rattle.c62_trace.specs.Event.{Entry}
 use Rattle.c62_trace.specs.Line.{trace_lines}
-use Rattle.c62_trace.specs.Stream.{IsTold}
+use Rattle.c62_trace.specs.Stream.{Sent, IsTold}
 use Rattle.c62_traced.specs.Names.{name_at}
 use Rattle.c62_traced.specs.Chain.{IsChainLog}
 use Rattle.c62_traced.specs.Flight.{IsFlightLog}
@@ -35,8 +35,8 @@ use Rattle.c62_drawing.specs.Found.{FindsFlight}
 use Rattle.c62_op.specs.declared.set.InstructionSet.{InstructionSet}
 
 -- A stream got the lines of these events that a window shows, with the names of what branches go to, and by their addresses: all of
--- them, or a front where it took no more.
-pub record GetsTrace (window : Window) (names : List (Option Name)) (base : ℕ) (log : List Entry) (whole : Bool) (old new : Option (List ℕ)) : Type 0 where
+-- them, or a front where it refused what follows.
+pub record GetsTrace (window : Window) (names : List (Option Name)) (base : ℕ) (log : List Entry) (whole : Sent) (old new : Option (List ℕ)) : Type 0 where
   pub view : View
   pub shown : view.window ≡ window
   pub named : view.names.items ≡ names
@@ -44,12 +44,12 @@ pub record GetsTrace (window : Window) (names : List (Option Name)) (base : ℕ)
   pub told : IsTold whole old new (trace_lines view log)
 
 -- what a stream gets of a run of so many cycles from this machine on: its trace or its waveform
-abbrev pub Gets : Drawn → Window → List (Option Name) → (opening : Machine) → (cycles : ℕ) → List Entry → (whole : Bool) → (old new : Option (List ℕ)) → Type 0
+abbrev pub Gets : Drawn → Window → List (Option Name) → (opening : Machine) → (cycles : ℕ) → List Entry → (whole : Sent) → (old new : Option (List ℕ)) → Type 0
 Gets Trace window names opening cycles log whole old new = GetsTrace window names opening.base log whole old new
 Gets Wave window names opening cycles log whole old new = IsTold whole old new (wave_of window opening.base opening.registers log cycles)
 
 -- Packets as they stand run so on this course, and a stream got what is drawn of it.
-pub record DrawsPackets (drawn : Drawn) (window : Window) (packets : List Packed) (course : Course) (settings : List Setting) (whole : Bool) (old new : Option (List ℕ)) : Type 0 where
+pub record DrawsPackets (drawn : Drawn) (window : Window) (packets : List Packed) (course : Course) (settings : List Setting) (whole : Sent) (old new : Option (List ℕ)) : Type 0 where
   pub opening : Machine
   pub begin : IsOpening settings opening
   pub chain : Chain
@@ -60,7 +60,7 @@ pub record DrawsPackets (drawn : Drawn) (window : Window) (packets : List Packed
   pub gets : Gets drawn window (labels_of packets) opening cycles log whole old new
 
 -- A text of packets flies so from a row on, and a stream got what is drawn of it, up to the last landing.
-pub record DrawsFlight (drawn : Drawn) (window : Window) (text : FlightText) (labels : List (Name × ℕ)) (first : ℕ) (course : FlightCourse) (settings : List Setting) (whole : Bool) (old new : Option (List ℕ)) : Type 0 where
+pub record DrawsFlight (drawn : Drawn) (window : Window) (text : FlightText) (labels : List (Name × ℕ)) (first : ℕ) (course : FlightCourse) (settings : List Setting) (whole : Sent) (old new : Option (List ℕ)) : Type 0 where
   pub opening : Machine
   pub begin : IsOpening settings opening
   pub stop : Stop
@@ -73,21 +73,22 @@ pub record DrawsFlight (drawn : Drawn) (window : Window) (text : FlightText) (la
 -- ---- texts
 
 -- all was taken, or a front of it
-abbrev pub of_whole : Bool → Traced
-of_whole whole = if whole then Whole else Cut
+abbrev pub of_whole : Sent → Traced
+of_whole (Ok _) = Whole
+of_whole (Err refused) = Cut refused
 
 -- the text says packets of this form, whose run is drawn, or it is refused, and nothing is written
 abbrev pub DrawsStanding : InstructionSet → Drawn → Window → Form → Course → List Setting → (text : List ℕ) → Traced → (old new : Option (List ℕ)) → Type 0
 DrawsStanding isa drawn window form course settings text traced old new =
     ((packets : List Packed) × SaysPackets isa form text packets
-    × (whole : Bool) × (traced ≡ of_whole whole) × DrawsPackets drawn window packets course settings whole old new)
+    × (whole : Sent) × (traced ≡ of_whole whole) × DrawsPackets drawn window packets course settings whole old new)
     ⊎ ((message : List ℕ) × SaysNoPackets isa form text message × (traced ≡ Nothing) × (new ≡ old))
 
 -- so it is with a text of packets in flight
 abbrev pub DrawsFlying : InstructionSet → Drawn → Window → (alone : Bool) → (from : Option Text) → FlightCourse → List Setting → (text : List ℕ) → Traced → (old new : Option (List ℕ)) → Type 0
 DrawsFlying isa drawn window alone from course settings text traced old new =
     ((begun : Begun) × FindsFlight isa alone from text (Some begun)
-    × (whole : Bool) × (traced ≡ of_whole whole)
+    × (whole : Sent) × (traced ≡ of_whole whole)
     × DrawsFlight drawn window (text_of begun.rows) begun.labels.entries begun.first course settings whole old new)
     ⊎ (FindsFlight isa alone from text None × (traced ≡ Nothing) × (new ≡ old))
 

@@ -15,7 +15,7 @@ use c62_line::Label;
 use c62_packet::Packets;
 use c62_rows::Begun;
 use c62_serial::State;
-use c62_trace::{Lines, View, Window};
+use c62_trace::{Lines, Refused, View, Window};
 use c62_traced::{fly_traced, names_of_packets, names_of_rows, run_chain_traced};
 use c62_wave::Wave;
 use std::alloc::{AllocError, Global};
@@ -61,7 +61,7 @@ fn trace_packets<W: Write + Drop>(
     window: Window,
     room: usize,
     stream: W,
-) -> (W, Result<bool, AllocError>)
+) -> (W, Result<Result<(), Refused>, AllocError>)
     requires { IsTrue (is_closed packets.now) }
     ensures { IfOk result.1 (λ whole. DrawsPackets drawing.Trace window packets.now start.now.course start.now.settings.items whole
         (W.contents stream) (W.contents result.0)) }
@@ -96,7 +96,7 @@ fn trace_flight<W: Write + Drop>(
     window: Window,
     room: usize,
     stream: W,
-) -> (W, Result<bool, AllocError>)
+) -> (W, Result<Result<(), Refused>, AllocError>)
     requires { IsIssuable (text_of begun.now.rows) }
     ensures { IfOk result.1 (λ whole. DrawsFlight drawing.Trace window (text_of begun.now.rows) begun.now.labels.entries begun.now.first
         start.now.course start.now.settings.items whole (W.contents stream) (W.contents result.0)) }
@@ -134,7 +134,7 @@ fn wave_packets<W: Write + Drop>(
     window: Window,
     room: usize,
     stream: W,
-) -> (W, Result<bool, AllocError>)
+) -> (W, Result<Result<(), Refused>, AllocError>)
     requires { IsTrue (is_closed packets.now) }
     ensures { IfOk result.1 (λ whole. DrawsPackets drawing.Wave window packets.now start.now.course start.now.settings.items whole
         (W.contents stream) (W.contents result.0)) }
@@ -161,7 +161,7 @@ fn wave_flight<W: Write + Drop>(
     window: Window,
     room: usize,
     stream: W,
-) -> (W, Result<bool, AllocError>)
+) -> (W, Result<Result<(), Refused>, AllocError>)
     requires { IsIssuable (text_of begun.now.rows) }
     ensures { IfOk result.1 (λ whole. DrawsFlight drawing.Wave window (text_of begun.now.rows) begun.now.labels.entries begun.now.first
         start.now.course start.now.settings.items whole (W.contents stream) (W.contents result.0)) }
@@ -200,7 +200,7 @@ pub(crate) fn draw_packets<W: Write + Drop>(
     window: Window,
     room: usize,
     stream: W,
-) -> (W, Result<bool, AllocError>)
+) -> (W, Result<Result<(), Refused>, AllocError>)
     requires { IsTrue (is_closed packets.now) }
     ensures { IfOk result.1 (λ whole. DrawsPackets drawn window packets.now start.now.course start.now.settings.items whole
         (W.contents stream) (W.contents result.0)) }
@@ -224,7 +224,7 @@ pub(crate) fn draw_flight<W: Write + Drop>(
     window: Window,
     room: usize,
     stream: W,
-) -> (W, Result<bool, AllocError>)
+) -> (W, Result<Result<(), Refused>, AllocError>)
     requires { IsIssuable (text_of begun.now.rows) }
     ensures { IfOk result.1 (λ whole. DrawsFlight drawn window (text_of begun.now.rows) begun.now.labels.entries begun.now.first
         start.now.course start.now.settings.items whole (W.contents stream) (W.contents result.0)) }

@@ -7,30 +7,33 @@ use crate::draw::{Drawn, draw_flight, draw_packets};
 use crate::read::{flight_in, packets_in};
 use c62_command::{FlightStart, Form, Request, Start};
 use c62_op::InstructionSet;
-use c62_trace::Window;
+use c62_trace::{Refused, Window};
 use std::alloc::{AllocError, Global};
 use std::io::Write;
 
 /// What a stream got of a run.
-#[derive(Clone, Copy, PartialEq, Eq, Debug)]
+#[derive(Clone, Copy, Debug)]
 pub enum Traced {
     /// Nothing was to be written: the text is refused, or no packets are run.
     Nothing,
     /// All of it.
     Whole,
-    /// A front of it, as it took no more.
-    Cut,
+    /// A front of it, as it refused what follows.
+    Cut(Refused),
 }
 
 /// All was taken, or a front.
-fn of_whole(whole: bool) -> Traced
+fn of_whole(whole: Result<(), Refused>) -> Traced
     ensures { result ≡ of_whole whole }
 {
-    if whole { Traced::Whole } else { Traced::Cut }
+    match whole {
+        Ok(()) => Traced::Whole,
+        Err(refused) => Traced::Cut(refused),
+    }
 }
 
 /// The same where memory may have run out.
-fn of_taken(whole: Result<bool, AllocError>) -> Result<Traced, AllocError>
+fn of_taken(whole: Result<Result<(), Refused>, AllocError>) -> Result<Traced, AllocError>
     ensures { IfOk result (λ traced. IsOkAnd whole (λ whole. traced ≡ of_whole whole)) }
 {
     Ok(of_whole(whole?))

@@ -1,2 +1,3 @@
 pub mod Cuts
 pub mod Counted
+pub mod Limited

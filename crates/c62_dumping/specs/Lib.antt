@@ -1,3 +1,4 @@
 pub mod Counts
 pub mod Cut
 pub mod Laws
+pub mod Limit

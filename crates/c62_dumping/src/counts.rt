@@ -34,16 +34,16 @@ fn counts_in(alloc: Global, settings: &[Setting]) -> Result<Vec<usize>, AllocErr
     Ok(counts)
 }
 
-/// How many bytes go to each file of what a request asks for.
-fn counts_of(alloc: Global, request: &Request) -> Result<Vec<usize>, AllocError>
-    ensures { IfOk result (λ counts. counts.items ≡ counts_asked (ask_of request.now)) }
+/// The settings of what a request asks for, which has some only as a run.
+pub(crate) fn settings_of(request: &Request) -> &[Setting]
+    ensures { result.now ≡ settings_asked (ask_of request.now) }
 {
     match request {
         Request::Run(_, start) | Request::Serial(start, _) | Request::Sim(_, start) => {
-            counts_in(alloc, &start.settings)
+            &start.settings
         }
-        Request::Exec(start) => counts_in(alloc, &start.settings),
-        Request::RunLoops(_, flight) => counts_in(alloc, &flight.settings),
+        Request::Exec(start) => &start.settings,
+        Request::RunLoops(_, flight) => &flight.settings,
         Request::Pack(_)
         | Request::Show(_)
         | Request::ShowListing(_)
@@ -52,7 +52,7 @@ fn counts_of(alloc: Global, request: &Request) -> Result<Vec<usize>, AllocError>
         | Request::Check(_)
         | Request::CheckLoops(_)
         | Request::PackLoops(_)
-        | Request::ShowLoops(_, _) => Ok(Vec::new(alloc)),
+        | Request::ShowLoops(_, _) => &[],
     }
 }
 
@@ -65,5 +65,5 @@ fn counts_of(alloc: Global, request: &Request) -> Result<Vec<usize>, AllocError>
 pub fn counts_asked(alloc: Global, command: &Command) -> Result<Vec<usize>, AllocError>
     ensures { IfOk result (λ counts. counts.items ≡ counts_asked (ask_told command.now)) }
 {
-    counts_of(alloc, &command.request)
+    counts_in(alloc, settings_of(&command.request))
 }

@@ -24,7 +24,7 @@ pub struct Flown {
     pub cycles: u64,
 }
 
-/// The address of row 0, behind data memory.
+/// The address of row 0.
 const FIRST_ADDRESS: u32 = 0x8000_0000;
 
 /// How far the addresses of rows are apart.

@@ -2,7 +2,7 @@
 
 ghost use Rattle.std.specs.Prelude.{None, false};
 
-use crate::folder::{FileError, Folder};
+use crate::folder::{FileError, Folder, Reason};
 use std::alloc::Global;
 use std::fs::{Files, OpenFile, OpenOptions};
 use std::io::{Read, Write};
@@ -77,11 +77,20 @@ fn is_device<H: Files>(files: &H, name: &str) -> bool {
     }
 }
 
-/// Makes a new file beside the other.
-fn open_beside<H: Files>(files: &H, beside: &str) -> io::Result<H::File> {
+/// Makes a new file beside the other. Where one is there already, it is named.
+fn open_beside<H: Files>(files: &H, alloc: Global, beside: &str) -> Result<H::File, FileError> {
     let mut options = OpenOptions::new();
     options.write(true).create_new(true);
-    options.open(files, beside)
+    match options.open(files, beside) {
+        Ok(file) => Ok(file),
+        Err(error) if error.kind() == io::ErrorKind::AlreadyExists => {
+            Err(FileError::Failed(Reason {
+                file: Some(String::from_str(alloc, beside)?),
+                error,
+            }))
+        }
+        Err(error) => Err(FileError::from(error)),
+    }
 }
 
 fn open_device<H: Files>(files: &H, name: &str) -> io::Result<H::File> {
@@ -119,9 +128,15 @@ fn put<H: Files>(
 }
 
 /// Writes a new file beside the other, with the rights of that where it is there, and puts it in its place.
-fn write_beside<H: Files>(files: &H, beside: &str, name: &str, bytes: &[u8]) -> io::Result<()> {
-    let file = open_beside(files, beside)?;
-    clear(files, beside, put(files, file, beside, name, bytes))
+fn write_beside<H: Files>(
+    files: &H,
+    alloc: Global,
+    beside: &str,
+    name: &str,
+    bytes: &[u8],
+) -> Result<(), FileError> {
+    let file = open_beside(files, alloc, beside)?;
+    Ok(clear(files, beside, put(files, file, beside, name, bytes))?)
 }
 
 fn write_device<H: Files>(files: &H, name: &str, bytes: &[u8]) -> io::Result<()> {
@@ -139,12 +154,17 @@ fn replace_file<H: Files>(
         return Ok(write_device(files, &real, bytes)?);
     }
     let beside = format!(in alloc; "{real}.c62-new")?;
-    Ok(write_beside(files, &beside, &real, bytes)?)
+    write_beside(files, alloc, &beside, &real, bytes)
 }
 
 /// Makes a new file beside the other, with the rights of that where it is there.
-fn begin_beside<H: Files>(files: &H, beside: &str, name: &str) -> io::Result<H::File> {
-    let file = open_beside(files, beside)?;
+fn begin_beside<H: Files>(
+    files: &H,
+    alloc: Global,
+    beside: &str,
+    name: &str,
+) -> Result<H::File, FileError> {
+    let file = open_beside(files, alloc, beside)?;
     clear(files, beside, take_rights(files, &file, name))?;
     Ok(file)
 }
@@ -164,7 +184,7 @@ fn begin_file<H: Files>(
     }
     let beside = format!(in alloc; "{real}.c62-trace")?;
     Ok(DiskSheet {
-        file: begin_beside(files, &beside, &real)?,
+        file: begin_beside(files, alloc, &beside, &real)?,
         beside: Some(beside),
         lost: None,
     })

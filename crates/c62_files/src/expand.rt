@@ -62,7 +62,7 @@ fn settings_in<F: Folder>(alloc: Global, folder: &F, name: &str) -> Result<Vec<u
 {
     let bytes = folder.read(alloc, name, MOST_SETTINGS)?;
     if bytes.len() > MOST_SETTINGS {
-        return Err(FileError::Failed(io::Error::from(io::ErrorKind::FileTooLarge)));
+        return Err(FileError::from(io::Error::from(io::ErrorKind::FileTooLarge)));
     }
     Ok(bytes)
 }

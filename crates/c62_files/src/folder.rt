@@ -7,12 +7,20 @@ use std::alloc::{AllocError, Global};
 use std::io;
 use std::io::Write;
 
+/// Why the system doesn't read or write a file.
+#[derive(Debug, Drop)]
+pub struct Reason {
+    /// The name of another file of which the system says it.
+    pub file: Option<String>,
+    pub error: io::Error,
+}
+
 /// Why a file was not read or written.
 #[derive(Debug, Drop)]
 pub enum FileError {
     Memory,
     /// The system says why.
-    Failed(io::Error),
+    Failed(Reason),
 }
 
 impl From<AllocError> for FileError {
@@ -26,7 +34,7 @@ impl From<io::Error> for FileError {
         if error.kind() == io::ErrorKind::OutOfMemory {
             FileError::Memory
         } else {
-            FileError::Failed(error)
+            FileError::Failed(Reason { file: None, error })
         }
     }
 }
@@ -107,6 +115,6 @@ pub fn end_sheet<F: Folder>(
     }
     match folder.discard(sheet) {
         Some(error) => Err(FileError::from(error)),
-        None => Err(FileError::Failed(io::Error::from(io::ErrorKind::WriteZero))),
+        None => Err(FileError::from(io::Error::from(io::ErrorKind::WriteZero))),
     }
 }

@@ -18,7 +18,7 @@ pub use call::{Call, CallError, Source, call_of};
 pub use disk::{Disk, DiskSheet};
 pub use dump::equals_parts;
 pub use expand::{MOST_SETTINGS, Unexpanded, Unread, expanded};
-pub use folder::{FileError, Folder, end_sheet};
+pub use folder::{FileError, Folder, Reason, end_sheet};
 pub use load::Misfit;
 pub use memory::MemoryFile;
 pub use piece::Piece;

@@ -15,7 +15,7 @@ pub struct MemoryFile {
 }
 
 fn not_found() -> FileError {
-    FileError::Failed(io::Error::from(io::ErrorKind::NotFound))
+    FileError::from(io::Error::from(io::ErrorKind::NotFound))
 }
 
 /// The bytes, but no more than one past this limit.

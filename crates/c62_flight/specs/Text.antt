@@ -45,8 +45,9 @@ pub data Position : Type 0 where
 
 -- ---- addresses
 
--- The address of a row: a multiple of 32, as if each packet had a fetch packet of its own, outside of data memory (docs/EXEC.md,
--- "Labels as words").
+-- The address of a row: a multiple of 32, as if each packet had a fetch packet of its own (docs/EXEC.md, "Labels as words").
+-- Rows lie in no memory. Where data memory begins at 0, it holds none of these addresses. Of a text of n rows it holds one exactly
+-- where it begins at an address from 2147483648 - 65532 to address_of n, as it has 65536 bytes and begins at a multiple of 4.
 abbrev pub address_of : ℕ → ℕ
 address_of row = 2147483648 + 32 * row
 

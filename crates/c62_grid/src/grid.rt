@@ -33,7 +33,7 @@ fn push_word(row: &mut String, widths: Widths, word: &str) -> Result<(), AllocEr
     push_left(row, widths.word, word)
 }
 
-/// What stands behind a line: whether it is on the critical path.
+/// What stands behind a line: whether it is critical.
 pub fn mark(path: &[u32], line: u32) -> &'static str
     ensures { result.now ≡ mark path.now line }
 {
@@ -214,7 +214,7 @@ fn push_names(row: &mut String, widths: Widths) -> Result<(), AllocError>
 #[derive(Clone, Copy)]
 pub struct Grid<'a> {
     pub widths: Widths,
-    /// The lines of its critical path.
+    /// The lines of its critical instructions.
     pub path: &'a [u32],
     /// Its length.
     pub cycles: u32,

@@ -4,13 +4,13 @@ ghost use Rattle.std.specs.Prelude.{◌≡◌, codes};
 ghost use Rattle.std.specs.List.{flat_map};
 ghost use Rattle.c62_json.specs.Document.{Adds};
 ghost use Rattle.c62_json_packets.specs.Member.{array_member, object_member};
-ghost use Rattle.c62_json_show.specs.Causes.{held_members, held_member, taken_members, taken_member, standing, cause};
+ghost use Rattle.c62_json_show.specs.Causes.{held_members, held_member, taken_members, taken_member, one_taken, all_taken, all_taken_of, standing, cause};
 
 use crate::words::{reason_words, resource_words};
 use c62_json_packets::member::{
     begin_array, begin_object, push_null, push_number, push_signed, push_string,
 };
-use c62_why::{Cause, Held, Taken, Why};
+use c62_why::{Cause, Held, Shortage, Taken, Why};
 use json::Writer;
 use std::alloc::{AllocError, Global};
 
@@ -65,14 +65,63 @@ fn push_taken_told(alloc: Global, out: &mut Writer, taken: &Taken) -> Result<(),
     out.end_object()
 }
 
-/// Writes the member of what others have taken, where that keeps an instruction.
+/// Writes the member of what others have taken first, where that keeps an instruction.
 fn push_taken(alloc: Global, out: &mut Writer, cause: &Cause) -> Result<(), AllocError>
     ensures { Adds result out.old out.new (taken_member cause.now) }
 {
     match cause {
-        Cause::Taken(taken) => push_taken_told(alloc, out, taken),
+        Cause::Taken(shortage) => push_taken_told(alloc, out, &shortage.first),
         Cause::First | Cause::Held(_) | Cause::Nothing => push_null(out, "taken"),
     }
+}
+
+/// Writes what others have taken, as an element.
+#[tactic(auto, unfolding(crate::specs::Causes::one_taken))]
+fn push_one_taken(alloc: Global, out: &mut Writer, taken: &Taken) -> Result<(), AllocError>
+    ensures { Adds result out.old out.new (one_taken taken.now) }
+{
+    out.begin_object()?;
+    push_taken_members(alloc, out, taken)?;
+    out.end_object()
+}
+
+/// Writes such elements, one behind the other.
+fn push_each_taken(alloc: Global, out: &mut Writer, more: &[Taken]) -> Result<(), AllocError>
+    ensures { Adds result out.old out.new (flat_map one_taken more.now) }
+{
+    for taken in more {
+        push_one_taken(alloc, out, taken)?;
+    }
+    Ok(())
+}
+
+/// Writes all that others have taken.
+#[tactic(auto, unfolding(crate::specs::Causes::all_taken))]
+fn push_shortage(alloc: Global, out: &mut Writer, shortage: &Shortage) -> Result<(), AllocError>
+    ensures { Adds result out.old out.new (all_taken shortage.now) }
+{
+    push_one_taken(alloc, out, &shortage.first)?;
+    push_each_taken(alloc, out, &shortage.more)
+}
+
+/// Writes all that others have taken, where that keeps an instruction.
+fn push_all_of(alloc: Global, out: &mut Writer, cause: &Cause) -> Result<(), AllocError>
+    ensures { Adds result out.old out.new (all_taken_of cause.now) }
+{
+    match cause {
+        Cause::Taken(shortage) => push_shortage(alloc, out, shortage),
+        Cause::First | Cause::Held(_) | Cause::Nothing => Ok(()),
+    }
+}
+
+/// Writes the member of all that others have taken.
+#[tactic(auto, unfolding(c62_json_packets::specs::Member::array_member))]
+fn push_all_taken(alloc: Global, out: &mut Writer, cause: &Cause) -> Result<(), AllocError>
+    ensures { Adds result out.old out.new (array_member (codes "all_taken") (all_taken_of cause.now)) }
+{
+    begin_array(out, "all_taken")?;
+    push_all_of(alloc, out, cause)?;
+    out.end_array()
 }
 
 /// Writes where an instruction stands.
@@ -94,6 +143,7 @@ fn push_cause(alloc: Global, out: &mut Writer, why: &Why) -> Result<(), AllocErr
     push_standing(out, why)?;
     push_held(alloc, out, &why.cause)?;
     push_taken(alloc, out, &why.cause)?;
+    push_all_taken(alloc, out, &why.cause)?;
     out.end_object()
 }
 

@@ -4,7 +4,8 @@ ghost use Rattle.std.specs.Prelude.{◌≡◌, ◌<◌, ◌∷◌, ℕ, pos, Lis
 ghost use Rattle.std.specs.Int.{div_ceil};
 ghost use Rattle.c62_insn.specs.declared.insn.Insn.{Insn};
 ghost use Rattle.c62_loop_bound.specs.declared.dependence.Dependence.{Dependence as ADependence};
-ghost use Rattle.c62_loop_bound.specs.Circle.{IsDependence};
+ghost use Rattle.c62_loop_bound.specs.Cause.{IsThatCircle};
+ghost use Rattle.c62_loop_bound.specs.Circle.{iterations, IsDependence};
 ghost use Rattle.c62_loop_bound.specs.Least.{IsByCircle};
 ghost use Rattle.c62_loop_bound.specs.Steps.{IsSum};
 
@@ -62,8 +63,10 @@ fn share_of(sums: Sums) -> Option<u16>
 
 /// How many cycles dependences ask of each pass, if they are a circle.
 fn cycles_of(circle: &[Dependence]) -> Option<u16>
-    ensures { (promised : Insn → Insn → Bool) (body : List Insn) → All (IsDependence promised body) circle.now
+    ensures by { (promised : Insn → Insn → Bool) (body : List Insn) → All (IsDependence promised body) circle.now
         → IfSome result (IsByCircle promised body) }
+    ensures that { (promised : Insn → Insn → Bool) (body : List Insn) → All (IsDependence promised body) circle.now
+        → IfSome result (λ cycles. IsThatCircle promised body cycles circle.now) }
 {
     let last = circle.first()?;
     let sums = sums_of(circle, last.to)?;
@@ -71,6 +74,27 @@ fn cycles_of(circle: &[Dependence]) -> Option<u16>
         return None;
     }
     share_of(sums)
+}
+
+/// Over how many iterations dependences go, if they are a circle.
+fn iterations_of(circle: &[Dependence]) -> Option<u64>
+    ensures { IfSome result (λ count. count ≡ iterations circle.now) }
+{
+    let last = circle.first()?;
+    let sums = sums_of(circle, last.to)?;
+    Some(sums.iterations)
+}
+
+/// Over how many iterations dependences go, if they are a circle that asks for so many cycles.
+pub(crate) fn iterations_asking(circle: &[Dependence], cycles: u16) -> Option<u64>
+    ensures { (promised : Insn → Insn → Bool) (body : List Insn) → All (IsDependence promised body) circle.now
+        → IfSome result (λ over. IsThatCircle promised body cycles circle.now × (over ≡ iterations circle.now)) }
+{
+    if cycles_of(circle)? == cycles {
+        iterations_of(circle)
+    } else {
+        None
+    }
 }
 
 /// More cycles than these, if dependences are a circle that asks for them.

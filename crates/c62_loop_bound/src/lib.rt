@@ -1,6 +1,7 @@
 //! How few cycles may lie between two passes of any kernel of a loop: by what a cycle has so many of, and by dependences in a circle.
 #![tactic(auto)]
 
+mod cause;
 mod circle;
 mod dependence;
 pub mod laws;
@@ -11,6 +12,7 @@ mod share;
 mod shares;
 mod work;
 
+pub use cause::{Cause, cause_of};
 pub use dependence::Dependence;
 pub use least::least_interval;
 pub use share::Share;

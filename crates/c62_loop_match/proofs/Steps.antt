@@ -1,6 +1,6 @@
 -- Steps, one after the other.
 use Rattle.std.proofs.Common.{◌≡◌, ℕ, zero, suc, ◌+◌, ◌<◌, List, [], ◌∷◌, ◌++◌, not, length, take, get_or, sym, ◌∙◌, ap}
-use Rattle.std.proofs.Common.{arith, true, false, ⊎_elim}
+use Rattle.std.proofs.Common.{arith, true, false, min, ⊎_elim}
 use Rattle.std.proofs.lemmas.Bool.{cases_Bool, cond-true, cond-false}
 use Rattle.c62_op.specs.declared.register.Reg.{Reg}
 use Rattle.c62_read.specs.declared.block.SerialInsn.{SerialInsn}
@@ -38,13 +38,15 @@ module _ (counter : Reg) where
       counter x + steps_in counter (take k xs) + step_of counter (get_or xs k d) = omega arith in e)
       ∙ ap (λ n. n + step_of counter (get_or xs k d)) (sym other)
 
-  pub steps_next : (xs : List SerialInsn) (k : ℕ) (d : SerialInsn) (steps next : ℕ) → k < length xs
-      → steps ≡ steps_in counter (take k xs) → next ≡ steps + step_of counter (get_or xs k d)
-      → next ≡ steps_in counter (take (k + 1) xs)
-  steps_next xs k d steps next inside old new =
-      let s : suc k ≡ k + 1 = omega arith in
-      new ∙ ap (λ n. n + step_of counter (get_or xs k d)) old ∙ sym (steps_more xs k d inside)
-      ∙ ap (λ n. steps_in counter (take n xs)) s
+  -- the sum goes no higher than the most
+  pub steps_next : (xs : List SerialInsn) (k : ℕ) (d : SerialInsn) (steps next most : ℕ) → k < length xs
+      → steps ≡ min (steps_in counter (take k xs)) most → next ≡ min (steps + step_of counter (get_or xs k d)) most
+      → next ≡ min (steps_in counter (take (k + 1) xs)) most
+  steps_next xs k d steps next most inside old new =
+      let s : k + 1 ≡ suc k = omega arith in
+      let more : steps_in counter (take (k + 1) xs) ≡ steps_in counter (take k xs) + step_of counter (get_or xs k d) =
+      ap (λ n. steps_in counter (take n xs)) s ∙ steps_more xs k d inside in
+      omega arith
 
   pub work_next : (xs : List SerialInsn) (k : ℕ) (d : SerialInsn) (work next : List SerialInsn) → k < length xs
       → work ≡ work_of counter (take k xs)

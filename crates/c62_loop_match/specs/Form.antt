@@ -1,5 +1,6 @@
 -- Steps of a counter and branches that test it, told by their form (docs/CHECK.md, "Pipelined loops").
 use Rattle.std.specs.Prelude.{ℕ, pos, negsuc, int_le, Bool, true, false, ◌==◌, ◌&&◌, not, if◌then◌else◌, Option, Some, None}
+use Rattle.std.specs.List.{list_all}
 use Rattle.c62_op.specs.declared.register.Reg.{Reg}
 use Rattle.c62_op.specs.declared.register.Cond.{Cond as Condition}
 use Rattle.c62_op.specs.declared.operands.Op.{Op}
@@ -11,7 +12,8 @@ use Rattle.c62_op.specs.Takes.{same_reg}
 use Rattle.c62_insn.specs.declared.insn.Insn.{Insn}
 use Rattle.c62_insn.specs.Insn.{op_of, operands_of, cond_of}
 use Rattle.c62_read.specs.declared.block.SerialInsn.{SerialInsn}
-use Rattle.c62_loop.specs.Counter.{constant_in, steps_on, size_of, touches}
+use Rattle.c62_loop.specs.Counter.{constant_in, steps_in, steps_on, size_of, touches}
+use Rattle.c62_loop.specs.Loop.{Region}
 
 -- ---- conditions
 
@@ -61,3 +63,11 @@ abbrev pub counts : Reg → ℕ → SerialInsn → Bool
 counts counter number entry =
     if steps_on counter entry then is_step counter entry.insn
     else (if touches counter entry then is_test counter number entry.insn else not (is_branch (op_of entry.insn)))
+
+-- none above the label is a branch, all from there on count, and of these the block's lower the counter by one, and no others
+abbrev pub is_counted_loop : Region → Bool
+is_counted_loop region =
+    list_all (λ entry. not (is_branch (op_of entry.insn))) region.before
+    && (list_all (counts region.counter region.number) region.body
+    && (list_all (counts region.counter region.number) region.behind
+    && ((steps_in region.counter region.body == 1) && (steps_in region.counter region.behind == 0))))

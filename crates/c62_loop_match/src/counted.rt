@@ -1,13 +1,13 @@
 //! Whether a loop counts: which instructions lower its counter, and which branches test it (docs/CHECK.md, "Pipelined loops").
 
-ghost use Rattle.std.specs.Prelude.{◌≡◌, IfSome, Some};
+ghost use Rattle.std.specs.Prelude.{◌≡◌, ◌==◌, ◌-◌, ◌^◌, min, Some};
 ghost use Rattle.std.specs.Bool.{OnTrue};
 ghost use Rattle.std.specs.List.{list_all};
 ghost use Rattle.c62_insn.specs.Insn.{op_of, operands_of, cond_of, is_condition_on, reads_register};
 ghost use Rattle.c62_rules.specs.Exclusive.{writes_in};
 ghost use Rattle.c62_loop.specs.Counter.{touches, constant_in, steps_in, work_of};
 ghost use Rattle.c62_loop.specs.Loop.{IsCountedLoop};
-ghost use Rattle.c62_loop_match.specs.Form.{runs_above_zero, is_guarded, lowers, goes_to, is_step, is_test, stops, counts};
+ghost use Rattle.c62_loop_match.specs.Form.{runs_above_zero, is_guarded, lowers, goes_to, is_step, is_test, stops, counts, is_counted_loop};
 ghost use Rattle.c62_loop_match.specs.Parts.{region_of};
 
 use crate::parts::Region;
@@ -165,25 +165,22 @@ fn step_of(counter: Reg, entry: &SerialInsn) -> u64
 
 ghost use Rattle.c62_loop_match.specs.Form.{step_of};
 
-/// By how much the steps of these lower the counter, if the number isn't too great.
-fn steps_in(counter: Reg, entries: &[SerialInsn]) -> Option<u64>
-    ensures { IfSome result (λ steps. steps ≡ steps_in counter entries.now) }
+/// By how much the steps of these lower the counter, or the greatest number where that is more.
+fn steps_in(counter: Reg, entries: &[SerialInsn]) -> u64
+    ensures { result ≡ min (steps_in counter entries.now) (2 ^ 64 - 1) }
 {
     let mut steps = 0u64;
     for entry in entries {
-        steps = steps.checked_add(step_of(counter, entry))?;
+        steps = steps.saturating_add(step_of(counter, entry));
     }
-    Some(steps)
+    steps
 }
 
 /// Whether the steps of these lower the counter by so much.
-fn has_steps(counter: Reg, entries: &[SerialInsn], wanted: u64) -> bool
-    ensures { OnTrue result (steps_in counter entries.now ≡ wanted) }
+fn has_steps(counter: Reg, entries: &[SerialInsn], wanted: u8) -> bool
+    ensures { result ≡ (steps_in counter entries.now == wanted) }
 {
-    match steps_in(counter, entries) {
-        Some(steps) => steps == wanted,
-        None => false,
-    }
+    steps_in(counter, entries) == u64::from(wanted)
 }
 
 fn is_straight(entry: &SerialInsn) -> bool
@@ -202,10 +199,11 @@ fn are_straight(entries: &[SerialInsn]) -> bool
     entries.iter().all(|entry| is_straight(entry))
 }
 
-/// Whether the loop counts: its block lowers the counter by one, and all that touches it from the label on are steps and branches
-/// to the loop. What stands above may do with it what it likes, but branches nowhere.
+/// Whether the loop counts, as it is written: its block lowers the counter by one, and all that touches it from the label on are
+/// steps and branches to the loop. What stands above may do with it what it likes, but branches nowhere.
 pub fn is_counted_loop(region: &Region) -> bool
-    ensures { OnTrue result (IsCountedLoop (region_of region.now)) }
+    ensures counted { OnTrue result (IsCountedLoop (region_of region.now)) }
+    ensures written { result ≡ is_counted_loop (region_of region.now) }
 {
     are_straight(&region.before)
         && all_count(region.counter, region.number, &region.body)

@@ -1,9 +1,10 @@
 -- The angles of a page are its own.
-use Rattle.std.proofs.Common.{◌≡◌, ℕ, List, [], ◌∷◌, Bool, true, false, refl, arith}
+use Rattle.std.proofs.Common.{◌≡◌, ◌∙◌, ℕ, List, [], ◌∷◌, ◌++◌, Bool, true, false, refl, sym, ap, arith}
 use Rattle.std.specs.List.{filter, flat_map, list_any}
 use Rattle.std.proofs.lemmas.List.Elements.{filter-append}
+use Rattle.std.proofs.lemmas.Grind.{flat_map-append}
 use Rattle.c62_markup.specs.Escape.{escaped}
-use Rattle.c62_markup.specs.Page.{Piece, own, page, written}
+use Rattle.c62_markup.specs.Page.{Piece, own, page, text_in, written}
 use Rattle.c62_markup.specs.Page.Piece.{Own, Text}
 use Rattle.c62_markup.specs.Laws.{AnglesAreOwn, is_angle}
 use Rattle.c62_markup.proofs.Escaped.{opens_nothing}
@@ -31,3 +32,25 @@ angles_are_own (piece ∷ rest) =
       one piece,
       angles_are_own rest,
     ) refl
+
+-- ---- pages that differ in texts
+
+-- what the maker of these pieces wrote
+abbrev pub owned : List Piece → List ℕ
+owned pieces = flat_map own pieces
+
+pub same_angles : (pieces others : List Piece) → owned pieces ≡ owned others
+    → filter is_angle (page pieces) ≡ filter is_angle (page others)
+same_angles pieces others same =
+    angles_are_own pieces ∙ (ap (λ bytes. filter is_angle bytes) same ∙ sym (angles_are_own others))
+
+pub same_parts : (one other more others : List Piece) → owned one ≡ owned other → owned more ≡ owned others
+    → owned (one ++ more) ≡ owned (other ++ others)
+same_parts one other more others same rest =
+    flat_map-append own one more
+    ∙ (ap (λ bytes. bytes ++ owned more) same
+    ∙ (ap (λ bytes. owned other ++ bytes) rest ∙ sym (flat_map-append own other others)))
+
+pub other_text : (before text other behind : List ℕ) → owned (text_in before text behind) ≡ owned (text_in before other behind)
+unfolding text_in
+other_text before text other behind = refl

@@ -9,7 +9,7 @@ use Rattle.c62_grid.specs.declared.landing.Landing.{Landing}
 use Rattle.c62_grid.specs.Grid.{is_on, packet}
 use Rattle.c62_grid.specs.Landing.{landings_by, landings_of}
 use Rattle.c62_show.specs.declared.shown.Shown.{Shown}
-use Rattle.c62_show.specs.Picture.{limit_lines, marked}
+use Rattle.c62_show.specs.Picture.{limit_lines}
 use Rattle.c62_show.specs.Registers.{register_lines}
 use Rattle.c62_show.proofs.Cells.{all_shown}
 use Rattle.c62_show.proofs.Printed.{before_end, cycle_in, unit_at}
@@ -125,7 +125,7 @@ module _ (shown : Shown) (part : List Piece) where
   above = lines_part (limit_lines shown.limits)
 
   abbrev grid : List Piece
-  grid = grid_part (marked shown.limits) shown.packets.cycles shown.packets.placed
+  grid = grid_part shown.critical.items shown.packets.cycles shown.packets.placed
 
   abbrev flight : List Piece
   flight = flight_part shown.packets.cycles shown.packets.placed
@@ -199,7 +199,7 @@ in_page text shown number k each p part at placed has =
 
 pub are_all_shown : (text : List ℕ) (shown : List Shown) → AreAllShown text shown
 are_all_shown text shown number k each p at sound placed =
-    let path = marked each.limits in
+    let path = each.critical.items in
     let row = cycle_row path each.packets.cycles each.packets.placed p.cycle in
     record {
       row =

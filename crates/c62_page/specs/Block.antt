@@ -3,7 +3,7 @@ use Rattle.std.specs.Prelude.{ℕ, ◌+◌, List, [], ◌∷◌, ◌++◌, codes
 use Rattle.c62_packet.specs.declared.placed.Placed.{Placed}
 use Rattle.c62_show.specs.declared.shown.Shown.{Shown}
 use Rattle.c62_show.specs.Head.{name}
-use Rattle.c62_show.specs.Picture.{limit_lines, marked}
+use Rattle.c62_show.specs.Picture.{limit_lines}
 use Rattle.c62_show.specs.Registers.{register_lines}
 use Rattle.c62_show.specs.Summary.{size_of}
 use Rattle.c62_markup.specs.Page.{Piece, number_in, own_piece, text_in}
@@ -28,7 +28,7 @@ block_head number shown =
 unfoldable pub block_rows : Shown → List Piece
 block_rows shown =
     lines_part (limit_lines shown.limits)
-    ++ grid_part (marked shown.limits) shown.packets.cycles shown.packets.placed
+    ++ grid_part shown.critical.items shown.packets.cycles shown.packets.placed
     ++ flight_part shown.packets.cycles shown.packets.placed
     ++ causes_part shown.whys.items
     ++ lines_part (register_lines shown.lives)

@@ -16,11 +16,11 @@ unfoldable pub held_marks : Dependence → List Piece
 held_marks held =
     number_in DATA_AFTER.now held.after (codes "'") ++ own_in DATA_NEEDS.now (signed_decimal held.needs) (codes "'")
 
--- or the line that has taken what it lacks
+-- or the line that has taken the first of what it lacks
 abbrev pub cause_marks : Cause → List Piece
 cause_marks First = []
 cause_marks (Held held) = held_marks held
-cause_marks (Taken taken) = number_in DATA_AFTER.now taken.by (codes "'")
+cause_marks (Taken shortage) = number_in DATA_AFTER.now shortage.first.by (codes "'")
 cause_marks Nothing = []
 
 -- the line of an instruction, its cycle and its slack

@@ -43,7 +43,7 @@ kind_of Mvk = codes "constant"
 kind_of Mvklh = codes "constant"
 kind_of _ = codes "other"
 
--- a line is on the critical path
+-- a line is critical
 abbrev pub is_marked : List ℕ → ℕ → Bool
 is_marked path line = list_any (λ each. each == line) path
 
@@ -57,7 +57,7 @@ cell_begin path p =
     ++ number_in (codes "") p.line CELL_CLASS.now
     ++ own_in (kind_of (op_of p.insn)) (class_end (is_marked path p.line)) (codes "")
 
--- its line, `*` where that is on the critical path, and its mnemonic
+-- its line, `*` where that is critical, and its mnemonic
 unfoldable pub insn_cell : List ℕ → Placed → List Piece
 insn_cell path p =
     cell_begin path p ++ linked TO_LINE.now p.line

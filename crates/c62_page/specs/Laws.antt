@@ -1,5 +1,5 @@
 -- What holds of pages.
-use Rattle.std.specs.Prelude.{◌≡◌, ℕ, List, ◌++◌, length, Some, slice_get}
+use Rattle.std.specs.Prelude.{◌≡◌, ℕ, List, ◌++◌, length, map, Some, None, slice_get}
 use Rattle.std.specs.List.{filter, flat_map}
 use Rattle.c62_read.specs.Text.{lines_of}
 use Rattle.c62_packet.specs.declared.placed.Placed.{Placed}
@@ -8,7 +8,6 @@ use Rattle.c62_grid.specs.declared.landing.Landing.{Landing}
 use Rattle.c62_grid.specs.Grid.{packet}
 use Rattle.c62_grid.specs.Landing.{landings_by}
 use Rattle.c62_show.specs.declared.shown.Shown.{Shown}
-use Rattle.c62_show.specs.Picture.{marked}
 use Rattle.c62_why.specs.declared.why.Why.{Why}
 use Rattle.c62_markup.specs.Laws.{is_angle}
 use Rattle.c62_markup.specs.Page.{Piece, own}
@@ -20,14 +19,24 @@ use Rattle.c62_page.specs.Page.{page_of, page_pieces}
 
 -- ---- what the page's maker wrote
 
--- each `<` and each `>` of a page is among its own pieces, in their order: none comes from the text, or from a label
-abbrev pub HasOwnElements : List ℕ → List Shown → Type 0
-HasOwnElements text shown = filter is_angle (page_of text shown) ≡ filter is_angle (flat_map own (page_pieces text shown))
+-- a block without its label
+abbrev pub unlabelled : Shown → Shown
+unlabelled shown = record shown { packets = record shown.packets { label = None } }
 
--- and these are the same for all texts of as many lines
-abbrev pub OwnIsTheSame : List ℕ → List ℕ → List Shown → Type 0
-OwnIsTheSame text other shown =
-    length (lines_of text) ≡ length (lines_of other) → flat_map own (page_pieces text shown) ≡ flat_map own (page_pieces other shown)
+-- two texts of as many lines, and the same blocks of them but for their labels
+pub record DifferInTexts (text other : List ℕ) (shown others : List Shown) : Type 0 where
+  pub lines : length (lines_of text) ≡ length (lines_of other)
+  pub blocks : map unlabelled shown ≡ map unlabelled others
+
+-- their pages have the same `<` and `>`, in their order: none comes from a line, with its operands and its comment, or from a label
+abbrev pub AnglesAreTheSame : List ℕ → List ℕ → List Shown → List Shown → Type 0
+AnglesAreTheSame text other shown others =
+    DifferInTexts text other shown others → filter is_angle (page_of text shown) ≡ filter is_angle (page_of other others)
+
+-- and what the page's maker wrote of them is the same
+abbrev pub OwnIsTheSame : List ℕ → List ℕ → List Shown → List Shown → Type 0
+OwnIsTheSame text other shown others =
+    DifferInTexts text other shown others → flat_map own (page_pieces text shown) ≡ flat_map own (page_pieces other others)
 
 -- ---- what is shown
 
@@ -39,8 +48,8 @@ pub record HasPart (pieces part : List Piece) : Type 0 where
 
 -- the row of an instruction's cycle is in the page, and in it the instruction's cell
 pub record IsShown (text : List ℕ) (shown : List Shown) (each : Shown) (p : Placed) : Type 0 where
-  pub row : HasPart (page_pieces text shown) (cycle_row (marked each.limits) each.packets.cycles each.packets.placed p.cycle)
-  pub cell : HasPart (unit_cells (marked each.limits) (packet each.packets.placed p.cycle)) (insn_cell (marked each.limits) p)
+  pub row : HasPart (page_pieces text shown) (cycle_row each.critical.items each.packets.cycles each.packets.placed p.cycle)
+  pub cell : HasPart (unit_cells each.critical.items (packet each.packets.placed p.cycle)) (insn_cell each.critical.items p)
 
 -- that holds of each instruction of the blocks
 abbrev pub AreAllShown : List ℕ → List Shown → Type 0

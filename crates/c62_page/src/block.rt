@@ -10,7 +10,7 @@ use crate::grid::push_grid;
 use crate::tags::{SECTION_END, SECTION_ID};
 use crate::words::{limit_lines, name, register_lines, size_of};
 use c62_markup::{push_number_in, push_own, push_text_in};
-use c62_show::{Shown, marked};
+use c62_show::Shown;
 use std::alloc::{AllocError, Global};
 
 /// Lines as a picture has them, where there are any.
@@ -46,7 +46,7 @@ fn push_rows(alloc: Global, out: &mut Vec<u8>, shown: &Shown) -> Result<(), Allo
     let limits = limit_lines(alloc, &shown.limits)?;
     let registers = register_lines(alloc, &shown.lives)?;
     push_lines(out, limits.as_bytes())?;
-    push_grid(alloc, out, marked(&shown.limits), cycles, placed)?;
+    push_grid(alloc, out, &shown.critical, cycles, placed)?;
     push_flight(alloc, out, cycles, placed)?;
     push_causes(alloc, out, &shown.whys)?;
     push_lines(out, registers.as_bytes())

@@ -23,14 +23,16 @@ fn push_held(out: &mut Vec<u8>, held: &Held) -> Result<(), AllocError>
     push_own_in(out, DATA_NEEDS, buffer.format(held.needs), "'")
 }
 
-/// The same, or the line that has taken what it lacks.
+/// The same, or the line that has taken the first of what it lacks.
 fn push_marks(out: &mut Vec<u8>, cause: &Cause) -> Result<(), AllocError>
     ensures { OnOk result (Adds out.old.items (cause_marks cause.now) out.new.items) }
 {
     match cause {
         Cause::First | Cause::Nothing => Ok(()),
         Cause::Held(held) => push_held(out, held),
-        Cause::Taken(taken) => push_number_in(out, DATA_AFTER, u64::from(taken.by), "'"),
+        Cause::Taken(shortage) => {
+            push_number_in(out, DATA_AFTER, u64::from(shortage.first.by), "'")
+        }
     }
 }
 

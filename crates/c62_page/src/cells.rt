@@ -32,7 +32,7 @@ fn kind_of(op: Op) -> &'static str
     }
 }
 
-/// Whether a line is on the critical path.
+/// Whether a line is critical.
 fn is_marked(path: &[u32], line: u32) -> bool
     ensures { result ≡ is_marked path.now line }
 {

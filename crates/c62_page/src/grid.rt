@@ -39,7 +39,7 @@ fn push_issue(out: &mut Vec<u8>, path: &[u32], issued: &[Placed]) -> Result<(), 
 /// A block whose rows are written.
 #[derive(Clone, Copy)]
 pub(crate) struct Grid<'a> {
-    /// The lines of its critical path.
+    /// The lines of its critical instructions.
     pub path: &'a [u32],
     /// Its length.
     pub cycles: u16,

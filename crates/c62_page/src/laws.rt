@@ -2,13 +2,13 @@
 
 ghost use Rattle.std.specs.Prelude.{ℕ, List};
 ghost use Rattle.c62_show.specs.declared.shown.Shown.{Shown};
-ghost use Rattle.c62_page.specs.Laws.{AreAllShown, HasOwnElements, HaveAllBars, HaveAllCauses, OwnIsTheSame};
+ghost use Rattle.c62_page.specs.Laws.{AnglesAreTheSame, AreAllShown, HaveAllBars, HaveAllCauses, OwnIsTheSame};
 
-/// Each `<` and each `>` of a page is the page's own. What the page writes of its own is the same for all texts of as many lines:
-/// so no text puts an element into it, or ends one.
+/// With any other lines in its text, as many, and any other labels, a page has the same `<` and `>`, in their order, and what its
+/// maker wrote is the same. So no line, with its operands and its comment, and no label puts an element into it, or ends one.
 pub fn pages_have_their_own_elements()
-    ensures angles { (text : List ℕ) (shown : List Shown) → HasOwnElements text shown }
-    ensures same { (text other : List ℕ) (shown : List Shown) → OwnIsTheSame text other shown }
+    ensures angles { (text other : List ℕ) (shown others : List Shown) → AnglesAreTheSame text other shown others }
+    ensures same { (text other : List ℕ) (shown others : List Shown) → OwnIsTheSame text other shown others }
 {}
 
 /// Each instruction of the packets has its cell in the page, in the row of its cycle; each of its landings has a bar.

@@ -3,9 +3,12 @@
 ghost use Rattle.std.specs.Prelude.{ℕ, List};
 ghost use Rattle.c62_read.specs.Block.{Serial};
 ghost use Rattle.c62_pipeline.specs.declared.written.Pipelining.{Pipelining as Written};
-ghost use Rattle.c62_page_loops.specs.Laws.{HasOwnElements};
+ghost use Rattle.c62_page_loops.specs.Laws.{AnglesAreTheSame, OwnIsTheSame};
 
-/// Each `<` and each `>` of a page is the page's own: no text puts an element into it, or ends one.
+/// With any other lines in its text, as many, and any other blocks with their labels, a page has the same `<` and `>`, in their
+/// order, and what its maker wrote is the same. So no line, with its operands and its comment, and no label puts an element into it,
+/// or ends one.
 pub fn pages_have_their_own_elements()
-    ensures { (text : List ℕ) (blocks : List Serial) (written : Written) → HasOwnElements text blocks written }
+    ensures angles { (text other : List ℕ) (blocks others : List Serial) (written : Written) → AnglesAreTheSame text other blocks others written }
+    ensures same { (text other : List ℕ) (blocks others : List Serial) (written : Written) → OwnIsTheSame text other blocks others written }
 {}

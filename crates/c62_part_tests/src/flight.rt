@@ -149,7 +149,8 @@ fn traced(rt: &impl Abort, alloc: Global, cycles: u64, room: usize) -> Result<(S
     };
     let mut lines = Lines::new(alloc, view, 100, stream);
     let _ = fly_traced(&begun.rows, begun.first, 40, &mut state, &mut lines)?;
-    Ok(lines.end())
+    let (stream, whole) = lines.end();
+    Ok((stream, whole.is_ok()))
 }
 
 /// A stream that takes no more has a front, and in a window of no cycle nothing is told.

@@ -10,8 +10,8 @@ use Rattle.clap.specs.Words.{Text as Name}
 use Rattle.c62_check_loops.specs.Granted.{is_granted}
 use Rattle.c62_check_loops.specs.Promised.{IsPromiseOf}
 use Rattle.c62_pipeline.specs.declared.chosen.Choice.{Choice}
-use Rattle.c62_pipeline.specs.declared.chosen.Kept.TheVariants.{NoTrips}
-use Rattle.c62_pipeline.specs.Chosen.{IsChosen, IsCountedAs, IsFound, loop_alone}
+use Rattle.c62_pipeline.specs.declared.chosen.Kept.TheVariants.{NoCounter, NoTrips}
+use Rattle.c62_pipeline.specs.Chosen.{IsChosen, IsCountedAs, IsFound, counts_down, loop_alone}
 
 pub found_of : {E : Type 0} (r : Result Choice E) (trips : List (Name × ℕ)) (apart : List Reg) (label : Name)
     (promise : Promise) (region : Region)
@@ -21,10 +21,26 @@ found_of (Ok choice) trips apart label promise region of is = (is.0, inr (promis
 found_of (Err e) trips apart label promise region of is = tt
 
 pub left_of : (trips : List (Name × ℕ)) (apart : List Reg) (label : Name) (region : Region) (choice : Choice)
-    → choice.number ≡ region.number → choice.made ≡ None → choice.kept ≡ NoTrips → is_granted trips label 1 ≡ false
+    → choice.number ≡ region.number → choice.made ≡ None → choice.kept ≡ NoTrips → choice.limit ≡ None
+    → is_granted trips label 1 ≡ false
     → IsCountedAs trips apart (Some label) region choice
-left_of trips apart label region choice number made kept why =
-    (number, inl (record { none = made; told = kept; why = why }))
+left_of trips apart label region choice number made kept unlimited why =
+    (number, inl (record { none = made; told = kept; unlimited = unlimited; why = why }))
+
+pub uncounted_of : (trips : List (Name × ℕ)) (apart : List Reg) (blocks : List Serial) (block : Serial) (number : ℕ)
+    (choice : Choice) → slice_get blocks number ≡ Some block → choice.number ≡ number → choice.made ≡ None
+    → choice.kept ≡ NoCounter → choice.limit ≡ None
+    → counts_down block.label (counter_of blocks number) number block ≡ false
+    → IsChosen trips apart blocks choice
+uncounted_of trips apart blocks block number choice at numbered none told unlimited why =
+    inl (record {
+      none = none;
+      told = told;
+      unlimited = unlimited;
+      block = block;
+      at = ap (slice_get blocks) numbered ∙ at;
+      why = ap (λ k. counts_down block.label (counter_of blocks k) k block) numbered ∙ why;
+    })
 
 pub chosen_of : {E : Type 0} (r : Result Choice E) (trips : List (Name × ℕ)) (apart : List Reg) (blocks : List Serial)
     (block : Serial) (label : Name) (number : ℕ) (counter : Reg) (region : Region)

@@ -6,6 +6,7 @@ use Rattle.c62_read.specs.declared.block.SerialInsn.{SerialInsn}
 use Rattle.c62_read.specs.Block.{Serial}
 use Rattle.c62_loop.specs.Loop.{Region}
 use Rattle.c62_loop_match.specs.declared.promise.Promise.{Promise}
+use Rattle.c62_loop_match.specs.Form.{is_counted_loop}
 use Rattle.c62_loop_match.specs.Promise.{promises}
 use Rattle.c62_modulo.specs.declared.made.Made.{Made}
 use Rattle.c62_modulo.specs.declared.made.Shortness.{Shortness}
@@ -16,6 +17,7 @@ use Rattle.c62_check_loops.specs.Granted.{is_granted}
 use Rattle.c62_pipeline.specs.declared.chosen.Kept.{Kept}
 use Rattle.c62_pipeline.specs.declared.chosen.Kept.TheVariants.{Pipelined, NoCounter, NoTrips, MayMeet, NotShorter, NotChecked}
 use Rattle.c62_pipeline.specs.declared.chosen.Choice.{Choice}
+use Rattle.c62_pipeline.specs.Limit.{IsLimitOf}
 use Rattle.c62_pipeline.specs.Meeting.{meeting_of}
 
 -- the loop that a block is, without the instructions around it
@@ -54,21 +56,32 @@ IsToldAs promise region None kept = IsReason promise region.body kept
 IsToldAs promise region (Some made) kept = IsPipelinedAs promise region made kept
 
 abbrev pub IsFound : Promise → Region → Choice → Type 0
-IsFound promise region choice = (choice.number ≡ region.number) × IsToldAs promise region choice.made choice.kept
+IsFound promise region choice =
+    (choice.number ≡ region.number) × IsToldAs promise region choice.made choice.kept × IfSome choice.limit (IsLimitOf promise region)
 
 -- where accesses from two of these registers are promised to be apart
 abbrev pub IsFoundOf : List Reg → Region → Choice → Type 0
 IsFoundOf apart region choice = (promise : Promise) × IsPromiseOf apart promise × IsFound promise region choice
 
+-- a block of this label goes on while this register isn't 0, and lowers it by one, as it is written
+abbrev pub counts_down : Option Name → Option Reg → ℕ → Serial → Bool
+counts_down (Some label) (Some counter) number block = is_counted_loop (loop_alone number block counter)
+counts_down label counter number block = false
+
 -- a loop that nothing counts has its block's packets
-pub record IsUncounted (choice : Choice) : Type 0 where
+pub record IsUncounted (blocks : List Serial) (choice : Choice) : Type 0 where
   pub none : choice.made ≡ None
   pub told : choice.kept ≡ NoCounter
+  pub unlimited : choice.limit ≡ None
+  pub block : Serial
+  pub at : slice_get blocks choice.number ≡ Some block
+  pub why : counts_down block.label (counter_of blocks choice.number) choice.number block ≡ false
 
 -- so has a loop of whose label not one trip is promised
 pub record IsUnpromised (trips : List (Name × ℕ)) (label : Option Name) (choice : Choice) : Type 0 where
   pub none : choice.made ≡ None
   pub told : choice.kept ≡ NoTrips
+  pub unlimited : choice.limit ≡ None
   pub why : IfSome label (λ label. is_granted trips label 1 ≡ false)
 
 -- what is found for a loop under a counter, of this label
@@ -86,7 +99,7 @@ pub record IsCounted (trips : List (Name × ℕ)) (apart : List Reg) (blocks : L
 
 -- what is found for a block of these that is a loop
 abbrev pub IsChosen : List (Name × ℕ) → List Reg → List Serial → Choice → Type 0
-IsChosen trips apart blocks choice = IsUncounted choice ⊎ IsCounted trips apart blocks choice
+IsChosen trips apart blocks choice = IsUncounted blocks choice ⊎ IsCounted trips apart blocks choice
 
 -- ---- what is told
 

@@ -1,3 +1,4 @@
+pub mod Limit
 pub mod Meeting
 pub mod Chosen
 pub mod Checked

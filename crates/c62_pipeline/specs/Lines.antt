@@ -9,6 +9,7 @@ use Rattle.c62_pipeline.specs.declared.chosen.Kept.TheVariants.{Pipelined, NoCou
 use Rattle.c62_pipeline.specs.declared.chosen.Choice.{Choice}
 use Rattle.c62_pipeline.specs.declared.written.Pipelining.{Pipelining}
 use Rattle.c62_pipeline.specs.Chosen.{told_kept}
+use Rattle.c62_pipeline.specs.Limit.{limit_told}
 
 -- whether a trip of so many cycles can be shorter: `2 over the bound of 1`
 abbrev pub shortness_words : ℕ → Shortness → List ℕ
@@ -55,7 +56,8 @@ name_in number (Some block) = loop_name number block.label
 -- `loop L 2 cycles 7 stages from 7 trips; no II is shorter`
 unfoldable pub choice_line : List Serial → (given_up : Bool) → Choice → List ℕ
 choice_line blocks given_up choice =
-    codes "loop " ++ name_in choice.number (slice_get blocks choice.number) ++ codes " " ++ kept_words (told_kept given_up choice) ++ codes "\n"
+    codes "loop " ++ name_in choice.number (slice_get blocks choice.number) ++ codes " " ++ kept_words (told_kept given_up choice)
+    ++ limit_told choice.limit ++ codes "\n"
 
 -- a line for each loop from this number on, where so many were given up
 abbrev pub lines_from : List Serial → (given_up number : ℕ) → List Choice → List ℕ

@@ -7,15 +7,17 @@ ghost use Rattle.c62_loop_match.specs.Parts.{region_of as region_read};
 ghost use Rattle.c62_loop_match.specs.Promise.{promises};
 ghost use Rattle.c62_modulo.specs.Made.{IsMade};
 ghost use Rattle.c62_pipeline.specs.Chosen.{IsChosen, IsCountedAs, IsFound, IsReason, loop_alone, told_kept};
+ghost use Rattle.c62_pipeline.specs.Limit.{IsLimitOf};
 ghost use Rattle.c62_command.specs.Promises.{trips_of};
 
+use crate::limit::{Limit, limit_of};
 use crate::meeting::{Meeting, all_apart, meeting_in};
 use c62_check_loop::counter_of;
 use c62_check_loops::{is_granted, promise_of};
 use c62_command::{Promises, Trips};
 use c62_insn::{Operands, Reg};
 use c62_line::Label;
-use c62_loop_match::{Pipelined, Region, is_counted_loop};
+use c62_loop_match::{Pipelined, Promise, Region, is_counted_loop};
 use c62_modulo::{Made, Shortness, Terms, pipelined};
 use c62_packet::PacketBlock;
 use c62_read::{Block, SerialInsn};
@@ -54,6 +56,8 @@ pub struct Choice {
     pub made: Option<Made>,
     /// What became of it.
     pub kept: Kept,
+    /// Where none is found that is shorter, what keeps a trip from being so.
+    pub limit: Option<Limit>,
 }
 
 impl Choice {
@@ -61,11 +65,13 @@ impl Choice {
         ensures number { result.number ≡ number }
         ensures made { result.made ≡ None }
         ensures kept { result.kept ≡ kept }
+        ensures limit { result.limit ≡ None }
     {
         Choice {
             number,
             made: None,
             kept,
+            limit: None,
         }
     }
 
@@ -82,6 +88,7 @@ impl Choice {
                 shortness,
             },
             made: Some(made),
+            limit: None,
         }
     }
 
@@ -162,13 +169,42 @@ fn reason_of(alloc: Global, region: &Region, terms: Terms) -> Result<Kept, Alloc
     }
 }
 
+/// What keeps a trip of a loop from being shorter, where that is why no packets are found.
+fn limit_told(
+    alloc: Global,
+    region: &Region,
+    promise: Promise,
+    kept: Kept,
+) -> Result<Option<Limit>, AllocError>
+    ensures { IfOk result (λ limit. IfSome limit (IsLimitOf promise (region_read region.now))) }
+{
+    match kept {
+        Kept::NotShorter => limit_of(alloc, region, promise),
+        _ => Ok(None),
+    }
+}
+
+/// A loop of which no packets are found, and why.
+fn unfound(alloc: Global, region: &Region, terms: Terms) -> Result<Choice, AllocError>
+    ensures { IfOk result (IsFound terms.promise (region_read region.now)) }
+{
+    let kept = reason_of(alloc, region, terms)?;
+    let limit = limit_told(alloc, region, terms.promise, kept)?;
+    Ok(Choice {
+        number: region.number,
+        made: None,
+        kept,
+        limit,
+    })
+}
+
 /// What is found for a loop of which so many trips are promised, and whose block takes so many cycles.
 fn found(alloc: Global, region: &Region, terms: Terms) -> Result<Choice, AllocError>
     ensures { IfOk result (IsFound terms.promise (region_read region.now)) }
 {
     match pipelined(alloc, region, terms)? {
         Some(made) => Ok(Choice::with(region.number, made)),
-        None => Ok(Choice::without(region.number, reason_of(alloc, region, terms)?)),
+        None => unfound(alloc, region, terms),
     }
 }
 

@@ -6,6 +6,7 @@ mod checked;
 mod chosen;
 mod kernel;
 pub mod laws;
+mod limit;
 mod lines;
 mod meeting;
 mod splice;
@@ -13,5 +14,7 @@ mod written;
 
 pub use chosen::{Choice, Kept};
 pub use kernel::{Parts, has_line, kernels, later, parts_of, push_range, stage_of};
+pub use limit::Limit;
 pub use lines::{loop_lines, push_choice, push_name_at};
+pub use meeting::{Meeting, meeting_in};
 pub use written::{Pipelining, pipeline};

@@ -5,6 +5,7 @@ ghost use Rattle.c62_listing.specs.Written.{AddsText};
 ghost use Rattle.c62_pipeline.specs.Lines.{accesses_end, accesses_front, both_words, choice_line, kept_words, loop_name, loop_lines, meeting_words, name_in, shortness_words, trip_words};
 
 use crate::chosen::{Choice, Kept};
+use crate::limit::push_limit;
 use crate::written::Pipelining;
 use c62_grid::words::{push_counted, push_number};
 use c62_listing::label_text;
@@ -138,6 +139,7 @@ pub fn push_choice(
     push_name_at(out, blocks, choice.number)?;
     out.push_str(" ")?;
     push_kept(out, choice.told(is_given_up))?;
+    push_limit(out, &choice.limit)?;
     out.push_str("\n")
 }
 

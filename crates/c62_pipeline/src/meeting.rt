@@ -65,13 +65,13 @@ fn first_with(promise: Promise, insns: &[SerialInsn]) -> Option<SerialInsn>
 
 /// The lines of two accesses that may meet.
 #[derive(Clone, Copy)]
-pub(crate) struct Meeting {
+pub struct Meeting {
     pub first: u32,
     pub second: u32,
 }
 
 /// The first two of these that may meet.
-pub(crate) fn meeting_in(promise: Promise, insns: &[SerialInsn]) -> Option<Meeting>
+pub fn meeting_in(promise: Promise, insns: &[SerialInsn]) -> Option<Meeting>
     ensures { result ≡ meeting_of promise insns.now }
 {
     let one = first_with(promise, insns)?;

@@ -1,22 +1,23 @@
 -- What a call does, from what each step of it did.
 use Rattle.std.proofs.Common.{◌≡◌, ℕ, ◌≤◌, Bool, true, false, List, [], ◌∷◌, length, Option, Some, None, refl, sym}
-use Rattle.std.proofs.Common.{subst, inl, arith}
-use Rattle.std.specs.Prelude.{map}
+use Rattle.std.proofs.Common.{subst, inl}
+use Rattle.std.specs.Prelude.{is_some, map}
 use Rattle.std.specs.Borrow.{Bor}
 use Rattle.std.proofs.KnownBytes.{Keeps-refl}
 use Rattle.clap.specs.Words.{Text}
 use Rattle.c62_answer.specs.Run.{Streams, streams}
 use Rattle.c62_files.specs.Call.{From, text_source}
 use Rattle.c62_files.specs.Expand.{Expands, Holding}
-use Rattle.c62_files.specs.Words.{text_piece}
+use Rattle.c62_files.specs.Words.{text_piece, texts}
 use Rattle.c62_files.specs.declared.call.Call.{Call}
 use Rattle.c62_program.specs.declared.trouble.Trouble.{Trouble}
 use Rattle.c62_program.specs.declared.trouble.Trouble.TheVariants.{NoCall, NoLoad, Unread, Unwritten, LooseDump, Input}
 use Rattle.c62_program.specs.declared.trouble.Trouble.TheVariants.{Memory}
 use Rattle.c62_program.specs.Trouble.{HasCallTrouble, IsCountTrouble, IsTroubleWithRun}
 use Rattle.c62_program.specs.Trouble.{IsTroubleWithSource, IsTroubleWriting, Loose, Running, is_early}
-use Rattle.c62_program.specs.Program.{AreCountsFor, RunsCall, RunsDumping, RunsNaming, RunsTarget, RunsTo, RunsWords}
-use Rattle.c62_program.specs.Program.{is_made}
+use Rattle.c62_program.specs.declared.dumping.Kept.{Kept}
+use Rattle.c62_program.specs.Program.{IsKeptFor, RunsCall, RunsKeeping, RunsTarget, RunsTo, RunsWords}
+use Rattle.c62_program.specs.Program.{is_made, is_plain}
 use Rattle.c62_files.specs.Writing.{IsReplaced}
 use Rattle.c62_teach.specs.Words.{plain_words}
 use Rattle.c62_program.proofs.Failing.{memory_with}
@@ -72,39 +73,20 @@ target_to isa before after words source target input left output errors told sta
 
 -- ---- a call
 
--- no file is named that memory goes to
-pub called_plain : (isa : InstructionSet) (before after : Holding) (call : Call) (words : List Text) (old new : Streams)
-    (status : ℕ)
+-- nothing is kept, or something is
+pub called : (isa : InstructionSet) (before after : Holding) (call : Call) (words : List Text) (kept : Kept)
+    (plain : Bool) (old new : Streams) (status : ℕ)
     → Expands before (map text_piece call.words.items) words
-    → call.dumps.items ≡ [] → RunsTarget isa before after words (text_source call.source) call.target old new status
+    → IsKeptFor (length call.dumps.items) (is_some call.target) (plain_words words) kept
+    → is_plain (texts call.dumps.items) kept.note.items ≡ plain
+    → RunsKeeping plain isa before after words call kept old new status
     → RunsCall isa before after call old new status
-called_plain isa before after call words old new status are none run = record {
+called isa before after call words kept plain old new status are keeps is run = record {
   words = words;
   expanded = are;
-  runs = subst (λ (names : List (Bor Text)). RunsNaming isa names before after words call old new status)
-      (sym none) run;
-}
-
--- some are
-named_runs : (isa : InstructionSet) (names : List (Bor Text)) (before after : Holding) (words : List Text) (call : Call)
-    (counts : List ℕ)
-    (old new : Streams) (status : ℕ) → 1 ≤ length names
-    → AreCountsFor (length names) (plain_words words) counts
-    → RunsDumping isa before after words call counts old new status
-    → RunsNaming isa names before after words call old new status
-named_runs isa [] before after words call counts old new status many counted run = absurd (omega (arith, many))
-named_runs isa (name ∷ names) before after words call counts old new status many counted run = (counts, counted, run)
-
-pub called_dumping : (isa : InstructionSet) (before after : Holding) (call : Call) (words : List Text) (counts : List ℕ)
-    (old new : Streams)
-    (status : ℕ)
-    → Expands before (map text_piece call.words.items) words → 1 ≤ length call.dumps.items
-    → AreCountsFor (length call.dumps.items) (plain_words words) counts
-    → RunsDumping isa before after words call counts old new status → RunsCall isa before after call old new status
-called_dumping isa before after call words counts old new status are many counted run = record {
-  words = words;
-  expanded = are;
-  runs = named_runs isa call.dumps.items before after words call counts old new status many counted run;
+  kept = kept;
+  keeps = keeps;
+  runs = subst (λ (b : Bool). RunsKeeping b isa before after words call kept old new status) (sym is) run;
 }
 
 -- ---- trouble

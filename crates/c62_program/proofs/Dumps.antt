@@ -1,15 +1,18 @@
--- What a run does that writes memory to files, from what each step of it did.
-use Rattle.std.proofs.Common.{◌≡◌, ◌≢◌, ◌∙◌, ℕ, true, false, List, [], ◌∷◌, length, Option, Some, None, Result}
+-- What a run does of which something is kept, from what each step of it did.
+use Rattle.std.proofs.Common.{◌≡◌, ◌≢◌, ◌∙◌, ℕ, Bool, true, false, List, [], ◌∷◌, length, Option, Some, None, Result}
 use Rattle.std.proofs.Common.{Ok, Err, drop, refl, sym, ap, subst, inl, inr}
 use Rattle.std.specs.Prelude.{OnErr}
 use Rattle.std.specs.Option.{IsSomeAnd}
 use Rattle.std.specs.Borrow.{Bor}
 use Rattle.std.proofs.KnownBytes.{Keeps-refl}
 use Rattle.clap.specs.Words.{Text}
+use Rattle.c62_answer.specs.Message.{Tells, told_of}
 use Rattle.c62_answer.specs.Run.{streams}
+use Rattle.c62_answer.proofs.WholeRuns.{told_tells}
 use Rattle.c62_command.specs.CommandLine.{Ask, asked}
 use Rattle.c62_dumping.specs.Counts.{counts_asked}
 use Rattle.c62_dumping.specs.Cut.{dumped_in, files_of, report_in}
+use Rattle.c62_dumping.specs.Limit.{limit_note, limit_said}
 use Rattle.c62_files.specs.Call.{text_source}
 use Rattle.c62_files.specs.Words.{texts}
 use Rattle.c62_files.specs.Writing.{AreBegun, AreWritten, Holding, IsNameIn}
@@ -20,7 +23,8 @@ use Rattle.c62_program.specs.declared.trouble.Trouble.TheVariants.{NoCall, NoLoa
 use Rattle.c62_program.specs.declared.trouble.Trouble.TheVariants.{Memory}
 use Rattle.c62_program.specs.Trouble.{IsAmong, IsLoose, IsTroubleDumping, IsTroubleWithCall, IsTroubleWithRun}
 use Rattle.c62_program.specs.Trouble.{IsTroubleWriting, IsTroubleWritingTo, is_early}
-use Rattle.c62_program.specs.Program.{AreCounts, AreCountsFor, HasBegun, IsDelivered}
+use Rattle.c62_program.specs.declared.dumping.Kept.{Kept}
+use Rattle.c62_program.specs.Program.{AsksFor, HasBegun, IsDelivered, IsKept, IsKeptFor, IsKeptOf}
 use Rattle.c62_program.specs.Program.{RunsDumping, RunsWords, is_made}
 use Rattle.c62_program.proofs.Calling.{is_late, not_both}
 use Rattle.c62_op.specs.declared.set.InstructionSet.{InstructionSet}
@@ -31,26 +35,32 @@ on_err (Err error) p = p
 
 -- ---- counts
 
-pub counted_none : (names : ℕ) (words : List Text) (found : Option (List ℕ)) → AreCounts words found → found ≡ None
-    → AreCountsFor names words []
-counted_none names words found are none = inl (subst (AreCounts words) none are, refl)
+pub kept_none : (names : ℕ) (to_file : Bool) (words : List Text) (found : Option Kept) (kept : Kept)
+    → IsKeptOf to_file words found → found ≡ None → kept.counts.items ≡ [] → kept.note.items ≡ []
+    → IsKeptFor names to_file words kept
+kept_none names to_file words found kept are none counts note =
+    inl (subst (IsKeptOf to_file words) none are, counts, note)
 
-pub counted_some : (names : ℕ) (words : List Text) (counts : List ℕ) (found : Option (List ℕ)) → AreCounts words found
-    → found ≡ Some counts
-    → length counts ≡ names → AreCountsFor names words counts
-counted_some names words counts found are some same = inr (same, subst (AreCounts words) some are)
+pub kept_some : (names : ℕ) (to_file : Bool) (words : List Text) (found : Option Kept) (kept : Kept)
+    → IsKeptOf to_file words found → found ≡ Some kept → length kept.counts.items ≡ names
+    → IsKeptFor names to_file words kept
+kept_some names to_file words found kept are some same = inr (same, subst (IsKeptOf to_file words) some are)
 
-loose_ask : (names : ℕ) (counts : List ℕ) (ask : Option Ask) → IsSomeAnd ask (λ a. counts ≡ counts_asked a)
-    → length counts ≢ names
+pub asks_for : (to_file : Bool) (words : List Text) (kept : Kept) (ask : Ask) → asked words ≡ Some ask
+    → kept.counts.items ≡ counts_asked ask → kept.note.items ≡ limit_note to_file ask → AsksFor to_file words kept
+asks_for to_file words kept ask is counts note = rw is (record { counts = counts; note = note })
+
+loose_ask : (names : ℕ) (to_file : Bool) (kept : Kept) (ask : Option Ask) → IsSomeAnd ask (IsKept to_file kept)
+    → length kept.counts.items ≢ names
     → IsSomeAnd ask (λ a. length (counts_asked a) ≢ names)
-loose_ask names counts None asks other = asks
-loose_ask names counts (Some ask) asks other = λ same. other (ap length asks ∙ same)
+loose_ask names to_file kept None asks other = asks
+loose_ask names to_file kept (Some ask) asks other = λ same. other (ap length asks.counts ∙ same)
 
-pub is_loose : (names : ℕ) (words : List Text) (counts : List ℕ) (found : Option (List ℕ)) → AreCounts words found
-    → found ≡ Some counts
-    → length counts ≢ names → IsLoose names words
-is_loose names words counts found are some other = loose_ask names counts (asked words)
-    (subst (AreCounts words) some are) other
+pub is_loose : (names : ℕ) (to_file : Bool) (words : List Text) (kept : Kept) (found : Option Kept)
+    → IsKeptOf to_file words found → found ≡ Some kept
+    → length kept.counts.items ≢ names → IsLoose names words
+is_loose names to_file words kept found are some other = loose_ask names to_file kept (asked words)
+    (subst (IsKeptOf to_file words) some are) other
 
 -- ---- trouble
 
@@ -120,43 +130,50 @@ has_written before between after names counts bytes written kept =
 
 -- ---- runs
 
-pub dumped_none : (isa : InstructionSet) (holds : Holding) (words : List Text) (call : Call) (counts answer : List ℕ)
+pub dumped_none : (isa : InstructionSet) (holds : Holding) (words : List Text) (call : Call) (kept : Kept)
+    (answer : List ℕ)
     (input left output errors told : Option (List ℕ)) (done : ℕ)
     → is_made words done ≡ false
     → RunsWords isa holds words (text_source call.source) (streams input (Some []) errors)
     (streams left (Some answer) told) done
-    → RunsDumping isa holds holds words call counts (streams input output errors) (streams left output told) done
-dumped_none isa holds words call counts answer input left output errors told done is_false run = record {
+    → RunsDumping isa holds holds words call kept (streams input output errors) (streams left output told) done
+dumped_none isa holds words call kept answer input left output errors told done is_false run = record {
   answer = answer;
   done = done;
   told = told;
+  noted = told;
   runs = run;
+  limited = λ is_true. absurd (not_both (is_made words done) is_false is_true);
   made = λ is_true. absurd (not_both (is_made words done) is_false is_true);
   none = λ e. record { kept = refl; ends = refl; unwritten = Keeps-refl output; silent = Keeps-refl told };
 }
 
-pub dumped_all : (isa : InstructionSet) (before between after : Holding) (words : List Text) (call : Call)
-    (counts answer report memory : List ℕ)
-    (input left output written errors told said : Option (List ℕ)) (done status : ℕ) → is_made words done ≡ true
+pub dumped_all : (isa : InstructionSet) {E : Type 0} (result : Result (Unit {0}) E) (before between after : Holding)
+    (words : List Text) (call : Call) (kept : Kept) (answer report memory said : List ℕ)
+    (input left output written errors told noted ended : Option (List ℕ)) (done status : ℕ)
+    → is_made words done ≡ true
     → RunsWords isa before words (text_source call.source) (streams input (Some []) errors)
     (streams left (Some answer) told) done
-    → report ≡ report_in counts answer → memory ≡ dumped_in counts answer
-    → AreWritten before (files_of (texts call.dumps.items) counts memory) between
-    → IsDelivered between after call.target report done output written told said status
-    → RunsDumping isa before after words call counts (streams input output errors) (streams left written said) status
-dumped_all isa before between after words call counts answer report memory input left output written errors told said
-    done
-    status is_true run reports remembers files delivered =
+    → report ≡ report_in kept.counts.items answer → memory ≡ dumped_in kept.counts.items answer
+    → said ≡ limit_said kept.note.items report → told_of result told noted said
+    → AreWritten before (files_of (texts call.dumps.items) kept.counts.items memory) between
+    → IsDelivered between after call.target report done output written noted ended status
+    → RunsDumping isa before after words call kept (streams input output errors) (streams left written ended) status
+dumped_all isa result before between after words call kept answer report memory said input left output written errors
+    told noted ended done status is_true run reports remembers says tells files delivered =
     record {
       answer = answer;
       done = done;
       told = told;
+      noted = noted;
       runs = run;
+      limited = λ e. subst (λ (text : List ℕ). Tells told noted text) (says ∙ ap (limit_said kept.note.items) reports)
+          (told_tells result told noted said tells);
       made = λ e. record {
         between = between;
-        written = subst (λ bytes. AreWritten before (files_of (texts call.dumps.items) counts bytes) between) remembers
-            files;
-        delivered = subst (λ bytes. IsDelivered between after call.target bytes done output written told said status)
+        written = subst (λ bytes. AreWritten before (files_of (texts call.dumps.items) kept.counts.items bytes) between)
+            remembers files;
+        delivered = subst (λ bytes. IsDelivered between after call.target bytes done output written noted ended status)
             reports delivered;
       };
       none = λ is_false. absurd (not_both (is_made words done) is_false is_true);

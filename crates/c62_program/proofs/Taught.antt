@@ -1,9 +1,8 @@
 -- What `lint` and `--explain` do, from what each step did.
-use Rattle.std.proofs.Common.{◌≡◌, ℕ, Bool, true, false, List, [], Option, Some, None, Result, refl, sym, subst}
-use Rattle.std.proofs.Common.{if◌then◌else◌}
+use Rattle.std.proofs.Common.{◌≡◌, ℕ, Bool, true, false, List, [], ◌++◌, Option, Some, None, Result, refl, subst}
 use Rattle.std.proofs.KnownBytes.{Keeps-refl}
 use Rattle.clap.specs.Words.{Text}
-use Rattle.c62_answer.specs.Message.{told_of}
+use Rattle.c62_answer.specs.Message.{Tells, told_of}
 use Rattle.c62_answer.specs.Run.{IsRun, Streams, streams}
 use Rattle.c62_answer.proofs.WholeRuns.{told_tells}
 use Rattle.clap.specs.declared.error.Error.{Error}
@@ -11,15 +10,15 @@ use Rattle.c62_command.specs.CommandLine.{Ask, Document, IsRefusal, asked, rende
 use Rattle.c62_command.specs.declared.command.Rendering.{Rendering}
 use Rattle.c62_command.specs.declared.command.Rendering.TheVariants.{Text as InText, Json as InJson}
 use Rattle.c62_command.specs.declared.command.CommandError.TheVariants as refused
+use Rattle.c62_command.specs.declared.command.Exclusion.{Exclusion}
 use Rattle.c62_command.specs.declared.promise.BadPromise.{BadPromise}
-use Rattle.c62_teach.specs.Setting.{setting_taught}
 use Rattle.c62_files.specs.Expand.{Holding}
 use Rattle.c62_files.specs.Call.{From}
 use Rattle.c62_teach.specs.declared.words.Linting.{Linting}
-use Rattle.c62_teach.specs.Words.{is_explained, is_lint, linting_of, plain_words}
+use Rattle.c62_teach.specs.Words.{is_explained, is_lint, lint_blame, linting_of, plain_words}
 use Rattle.c62_teach.specs.Linted.{IsLinted}
 use Rattle.c62_program.specs.Program.{IsGiven, IsRefusedFor, Lint, Lints, OnBytes, OnNothing, Plain, Refused}
-use Rattle.c62_program.specs.Program.{WithMore, is_told, RunsFrom, RunsLint, RunsTold, RunsWords}
+use Rattle.c62_program.specs.Program.{WithMore, is_told, refusal_taught, RunsFrom, RunsLint, RunsTold, RunsWords}
 use Rattle.c62_program.specs.Teaching.{AreTold, IsLintRun, RunsMore, TeachesWanted, behind_text, behind_words}
 use Rattle.c62_program.specs.Teaching.{listing_name, status_with, text_name}
 use Rattle.c62_program.specs.declared.page.TheConstants.{LINT}
@@ -39,11 +38,12 @@ ran_more isa result words more old input output told errors status run says =
 
 pub lint_refused : (isa : InstructionSet) {E : Type 0} (result : Result (Unit {0}) E) (holds : Holding)
     (words : List Text) (source : From)
-    (input output errors told : Option (List ℕ))
-    → linting_of words ≡ None → told_of result errors told LINT.now
+    (input output errors told : Option (List ℕ)) (why : List ℕ) → why ≡ lint_blame words ++ LINT.now
+    → linting_of words ≡ None → told_of result errors told why
     → RunsLint isa holds words source (streams input output errors) (streams input output told) 2
-lint_refused isa result holds words source input output errors told none says =
-    Refused none refl (told_tells result errors told LINT.now says) (Keeps-refl output) (Keeps-refl input)
+lint_refused isa result holds words source input output errors told why is none says =
+    Refused none refl (subst (λ (text : List ℕ). Tells errors told text) is (told_tells result errors told why says))
+    (Keeps-refl output) (Keeps-refl input)
 
 pub lint_found : (isa : InstructionSet) (holds : Holding) (words : List Text) (source : From) (old new : Streams)
     (status : ℕ)
@@ -61,27 +61,24 @@ lint_found isa holds words source old new status linting bytes lines faulty name
 
 pub refused_setting : (wanted : Bool) (words : List Text) (number : ℕ) (more : List ℕ)
     → IsRefusal (refused.Setting number) words
-    → more ≡ (if wanted then setting_taught words number else []) → IsRefusedFor wanted words more
+    → more ≡ refusal_taught wanted words (refused.Setting number) → IsRefusedFor wanted words more
 refused_setting wanted words number more is says = record
     { error = refused.Setting number; known = λ same. cc; refused = is; taught = says }
-
-no_more : (wanted : Bool) (more : List ℕ) → more ≡ [] → [] ≡ (if wanted then more else [])
-no_more true more none = sym none
-no_more false more none = refl
 
 pub refused_promise : (wanted : Bool) (words : List Text) (bad : BadPromise) → IsRefusal (refused.Promise bad) words
     → IsRefusedFor wanted words []
 refused_promise wanted words bad is = record
-    { error = refused.Promise bad; known = λ same. cc; refused = is; taught = no_more wanted [] refl }
+    { error = refused.Promise bad; known = λ same. cc; refused = is; taught = refl }
 
-pub refused_ways : (wanted : Bool) (words : List Text) → IsRefusal refused.Ways words → IsRefusedFor wanted words []
-refused_ways wanted words is = record
-    { error = refused.Ways; known = λ same. cc; refused = is; taught = no_more wanted [] refl }
+pub refused_excluded : (wanted : Bool) (words : List Text) (exclusion : Exclusion)
+    → IsRefusal (refused.Excluded exclusion) words → IsRefusedFor wanted words []
+refused_excluded wanted words exclusion is = record
+    { error = refused.Excluded exclusion; known = λ same. cc; refused = is; taught = refl }
 
 pub refused_words : (wanted : Bool) (words : List Text) (error : Error) → IsRefusal (refused.Words error) words
     → IsRefusedFor wanted words []
 refused_words wanted words error is = record
-    { error = refused.Words error; known = λ same. cc; refused = is; taught = no_more wanted [] refl }
+    { error = refused.Words error; known = λ same. cc; refused = is; taught = refl }
 
 -- ---- words of which more is told
 

@@ -71,7 +71,7 @@ draws_to_file isa known before after drawn window request text name traced blank
         → (blank ≡ Some [] → sheet ≡ Some bytes) → EndsFile before after name bytes traced
     ends Nothing done bytes draws = done
     ends Whole done bytes draws = replaced known before after name bytes blank sheet blanks draws done.0 done.1
-    ends Cut done bytes draws = absurd done
+    ends (Cut refused) done bytes draws = absurd done
 
 -- the same of a sheet that was begun, where the file may not be written
 pub file_drawn : (isa : InstructionSet) {E : Type 0} (result : Result (Unit {0}) E) (known : Bool)
@@ -90,12 +90,11 @@ file_drawn isa (Err error) known before begun after drawn window request text na
 
 -- a trace was written, and its waveform may have failed
 pub leaves_files : (isa : InstructionSet) (before mid after : Holding) (window : Window) (request : Request)
-    (text : List ℕ) (to : Option To)
-    (old new : Option (List ℕ)) → IsTracedTo isa before mid window request text to old new → after ≡ mid
-    → LeavesFiles before after to
-leaves_files isa before mid after window request text None old new traced same = same ∙ traced.0
-leaves_files isa before mid after window request text (Some Errors) old new traced same = same ∙ traced.0
-leaves_files isa before mid after window request text (Some (ToFile name)) old new traced same =
+    (text : List ℕ) (to : Option To) (old new : Option (List ℕ)) (drawn : Traced)
+    → IsTracedTo isa before mid window request text to old new drawn → after ≡ mid → LeavesFiles before after to
+leaves_files isa before mid after window request text None old new drawn traced same = same ∙ traced.0
+leaves_files isa before mid after window request text (Some Errors) old new drawn traced same = same ∙ traced.0
+leaves_files isa before mid after window request text (Some (ToFile name)) old new drawn traced same =
     subst (λ (m : Holding). LeavesFiles before m (Some (ToFile name))) (sym same)
     (left traced.0.traced traced.0.bytes traced.0.ends)
   where
@@ -103,14 +102,14 @@ leaves_files isa before mid after window request text (Some (ToFile name)) old n
         → (other : Text) → other ≢ name → mid other ≡ before other
     left Nothing bytes ends other differs = rw ends refl
     left Whole bytes ends other differs = ends.1 other differs
-    left Cut bytes ends other differs = absurd ends
+    left (Cut refused) bytes ends other differs = absurd ends
 
 pub leaves_errors : (isa : InstructionSet) (before mid : Holding) (window : Window) (request : Request) (text : List ℕ)
-    (to : Option To)
-    (old new : Option (List ℕ)) → IsTracedTo isa before mid window request text to old new → LeavesErrors to old new
-leaves_errors isa before mid window request text None old new traced = traced.1
-leaves_errors isa before mid window request text (Some Errors) old new traced = tt
-leaves_errors isa before mid window request text (Some (ToFile name)) old new traced = traced.1
+    (to : Option To) (old new : Option (List ℕ)) (drawn : Traced)
+    → IsTracedTo isa before mid window request text to old new drawn → LeavesErrors to old new
+leaves_errors isa before mid window request text None old new drawn traced = traced.1
+leaves_errors isa before mid window request text (Some Errors) old new drawn traced = tt
+leaves_errors isa before mid window request text (Some (ToFile name)) old new drawn traced = traced.1
 
 -- nothing was written yet
 pub same_files : (before after : Holding) (to : Option To) → after ≡ before → LeavesFiles before after to
@@ -132,12 +131,12 @@ refused words error known refusal = record { error = error; known = known; refus
 -- a call comes to its end behind its trace
 pub traced : (isa : InstructionSet) (before mid after : Holding) (told : Told) (call : Call) (words : List Text)
     (text : Option (List ℕ))
-    (input left rest output out errors errs ends : Option (List ℕ)) (status : ℕ)
+    (input left rest output out errors errs ends : Option (List ℕ)) (status : ℕ) (drawn : Traced)
     → Expands before (map text_piece call.words.items) words
-    → IsTextTraced isa before mid told words (text_source call.source) input left text errors errs
+    → IsTextTraced isa before mid told words (text_source call.source) input left text errors errs drawn
     → EndsRead isa mid after call words text (streams left output errs) (streams rest out ends) status
-    → RunsTraced isa before after told call (streams input output errors) (streams rest out ends) status
-traced isa before mid after told call words None input left rest output out errors errs ends status are none over =
+    → RunsTraced isa before after told call (streams input output errors) (streams rest out ends) status drawn
+traced isa before mid after told call words None input left rest output out errors errs ends status drawn are none over =
     Untraced words are none.0
     (subst (λ (m : Holding). EndsOn isa m after call words (text_source call.source) (streams input output errors)
     (streams rest out ends) status) none.1
@@ -146,7 +145,7 @@ traced isa before mid after told call words None input left rest output out erro
     (subst (λ e. EndsOn isa mid after call words (text_source call.source) (streams left output e)
     (streams rest out ends) status) none.3 over)))
 traced isa before mid after told call words
-    (Some text) input left rest output out errors errs ends status are some over =
+    (Some text) input left rest output out errors errs ends status drawn are some over =
     Shown words are some.0 some.1 text some.2 mid errs over.0 some.3 over.1
 
 -- a call of these words on a source comes to its end, or there is no room for it
@@ -186,22 +185,22 @@ read isa before after call words text bytes source input output errors left out 
 
 -- words that ask for a trace come to no call
 pub misnamed : (isa : InstructionSet) (before : Holding) (words : List Text) (input output old new : Option (List ℕ))
-    (status : ℕ)
+    (status : ℕ) (drawn : Traced)
     → tracing_of words ≡ None → status ≡ 2 → Tells old new TRACE.now
-    → IsTracedRun isa before before words (streams input output old) (streams input output new) status
-misnamed isa before words input output old new status none is says = Misnamed none is says (Keeps-refl output) refl
+    → IsTracedRun isa before before words (streams input output old) (streams input output new) status drawn
+misnamed isa before words input output old new status drawn none is says = Misnamed none is says (Keeps-refl output) refl
 
 pub uncalled : (isa : InstructionSet) (before : Holding) (words others : List Text) (error : CallError)
-    (input output old new : Option (List ℕ)) (status : ℕ) → others ≡ other_words words → IsMistake others error
+    (input output old new : Option (List ℕ)) (status : ℕ) (drawn : Traced) → others ≡ other_words words → IsMistake others error
     → status ≡ status_of (NoCall error) → Tells old new (call_message error)
-    → IsTracedRun isa before before words (streams input output old) (streams input output new) status
-uncalled isa before words others error input output old new status same is ends says =
+    → IsTracedRun isa before before words (streams input output old) (streams input output new) status drawn
+uncalled isa before words others error input output old new status drawn same is ends says =
     NoneCalled error (subst (λ (o : List Text). IsMistake o error) same is) ends says (Keeps-refl output) refl
 
 pub called : (isa : InstructionSet) (before after : Holding) (words others : List Text) (told : Told) (call : Call)
     (old new : Streams)
-    (status : ℕ) → tracing_of words ≡ Some told → others ≡ other_words words → IsCall others call
-    → RunsTraced isa before after told call old new status
-    → IsTracedRun isa before after words old new status
-called isa before after words others told call old new status some same is runs =
+    (status : ℕ) (drawn : Traced) → tracing_of words ≡ Some told → others ≡ other_words words → IsCall others call
+    → RunsTraced isa before after told call old new status drawn
+    → IsTracedRun isa before after words old new status drawn
+called isa before after words others told call old new status drawn some same is runs =
     Called told some call (subst (λ (o : List Text). IsCall o call) same is) runs

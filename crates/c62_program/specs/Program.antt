@@ -1,30 +1,33 @@
 -- What the program does to files and streams (docs/COMMANDS.md, "Files").
-use Rattle.std.specs.Prelude.{◌≡◌, ◌≢◌, ◌⊎◌, ℕ, ◌+◌, ◌==◌, ◌&&◌, ◌||◌, nat_le, Bool, true, false, List, [], ◌∷◌, length, map, take, codes, Option, Some, None, IfSome, if◌then◌else◌}
-use Rattle.std.specs.Option.{IsSomeAnd}
+use Rattle.std.specs.Prelude.{◌≡◌, ◌≢◌, ◌⊎◌, ℕ, ◌+◌, ◌==◌, ◌&&◌, ◌||◌, nat_le, Bool, true, false, List, [], ◌∷◌, ◌++◌, length, map, take, codes, Option, Some, None, IfSome, is_some, if◌then◌else◌}
+use Rattle.std.specs.Option.{IsSomeAnd, option_map_or}
 use Rattle.std.specs.Io.KnownBytes.{Keeps}
 use Rattle.std.specs.Borrow.{Bor}
 use Rattle.clap.specs.Words.{Text}
 use Rattle.c62_answer.specs.Message.{Tells}
 use Rattle.c62_answer.specs.Run.{Streams, IsRun, streams}
 use Rattle.c62_answer.specs.declared.parting.TheConstants.{MOST_BYTES}
-use Rattle.c62_command.specs.CommandLine.{IsRefusal, ask_told, asked}
+use Rattle.c62_command.specs.Blamed.{setting_at}
+use Rattle.c62_command.specs.CommandLine.{Ask, IsRefusal, ask_told, asked}
 use Rattle.c62_command.specs.declared.command.CommandError.{CommandError}
 use Rattle.c62_command.specs.declared.command.CommandError.TheVariants.{Memory, Setting}
 use Rattle.c62_dumping.specs.Counts.{counts_asked}
 use Rattle.c62_dumping.specs.Cut.{dumped_in, files_of, report_in}
+use Rattle.c62_dumping.specs.Limit.{limit_note, limit_said}
 use Rattle.c62_files.specs.Words.{dumps, text_piece, texts}
 use Rattle.c62_files.specs.Expand.{Expands, Holding}
 use Rattle.c62_files.specs.Writing.{AreBegun, AreWritten, IsReplaced}
 use Rattle.c62_files.specs.Call.{From, Standard, File, Named, Parts, is_standard, text_source}
 use Rattle.c62_files.specs.declared.call.Call.{Call}
 use Rattle.c62_teach.specs.declared.words.Linting.{Linting}
-use Rattle.c62_teach.specs.Words.{is_explained, is_lint, is_strict, is_watched, linting_of, plain_words}
+use Rattle.c62_teach.specs.Words.{is_explained, is_lint, is_of_memory, is_strict, is_watched, lint_blame, linting_of, names_memory, plain_words}
 use Rattle.c62_teach.specs.Linted.{IsLinted}
 use Rattle.c62_teach.specs.Setting.{setting_taught}
 use Rattle.c62_program.specs.Joined.{IsJoined}
 use Rattle.c62_program.specs.Teaching.{AreToldOf, IsLintRun, RunsMore, behind_text, behind_words, status_with, text_name}
 use Rattle.c62_program.specs.Written.{IsWritten}
 use Rattle.c62_program.specs.declared.page.TheConstants.{LINT}
+use Rattle.c62_program.specs.declared.dumping.Kept.{Kept}
 use Rattle.c62_program.specs.declared.teaching.Asked.{Asked}
 use Rattle.c62_program.specs.declared.teaching.Asked.TheVariants.{Known, Unknown}
 use Rattle.c62_program.specs.Trouble.{HasCallTrouble, HasTrouble, IsSaid, status_of}
@@ -74,23 +77,28 @@ pub data RunsFrom (isa : InstructionSet) (holds : Holding) (words : List Text) (
 
 -- A run of `lint`: its words are refused before anything is read, or the faults of what its source gives are told.
 pub data RunsLint (isa : InstructionSet) (holds : Holding) (words : List Text) (source : From) (old new : Streams) (status : ℕ) : Type 0 where
-  Refused : linting_of words ≡ None → status ≡ 2 → Tells old.errors new.errors LINT.now → Keeps old.output new.output → Keeps old.input new.input
+  Refused : linting_of words ≡ None → status ≡ 2 → Tells old.errors new.errors (lint_blame words ++ LINT.now) → Keeps old.output new.output → Keeps old.input new.input
       → RunsLint isa holds words source old new status
   Lints : (linting : Linting) → linting_of words ≡ Some linting → (bytes : List ℕ) → IsGiven holds old.input source bytes
       → (lines : List ℕ) (faulty : Bool) → IsLinted isa linting (text_name source) bytes lines faulty
       → IsLintRun lines faulty old.output new.output old.errors new.errors status → RunsLint isa holds words source old new status
 
--- what explains why words ask for nothing: of a setting that is none the reason, and of promises and other words nothing
-abbrev pub refusal_taught : List Text → CommandError → List ℕ
-refusal_taught words (Setting k) = setting_taught words k
-refusal_taught words error = []
+-- an option of memory stands for setting k
+abbrev pub is_memory_setting : List Text → ℕ → Bool
+is_memory_setting words k = option_map_or is_of_memory (setting_at words k) false
 
--- the words ask for nothing, and this explains why, where that is wanted
+-- what explains why words ask for nothing: of a setting that is none the reason, where that is wanted or an option of memory stands for it, and
+-- of promises and other words nothing
+abbrev pub refusal_taught : (wanted : Bool) → List Text → CommandError → List ℕ
+refusal_taught wanted words (Setting k) = if wanted || is_memory_setting words k then setting_taught words k else []
+refusal_taught wanted words error = []
+
+-- the words ask for nothing, and this explains why
 pub record IsRefusedFor (wanted : Bool) (words : List Text) (more : List ℕ) : Type 0 where
   pub error : CommandError
   pub known : error ≢ Memory
   pub refused : IsRefusal error words
-  pub taught : more ≡ (if wanted then refusal_taught words error else [])
+  pub taught : more ≡ refusal_taught wanted words error
 
 -- what words ask for, or why they ask for nothing
 abbrev pub IsAsked : (wanted : Bool) → List Text → Asked → Type 0
@@ -99,9 +107,9 @@ IsAsked wanted words (Unknown more) = IsRefusedFor wanted words more.items
 
 -- more is told than by the run itself
 abbrev pub is_told : List Text → Bool
-is_told words = is_explained words || is_strict words || is_watched words
+is_told words = is_explained words || is_strict words || is_watched words || names_memory words
 
--- A run of words with `--explain`, `--strict` or `--apart`: what is promised of a run without `--explain` is so of it. Behind what that tells of
+-- A run of words with `--explain`, `--strict`, `--apart` or an option of memory: what is promised of a run without `--explain` is so of it. Behind what that tells of
 -- a text or of words that are refused stands with `--explain` what explains why, behind a serial run where accesses meet that `--apart` names,
 -- and behind a strict run in which accesses fault stands each of them. The status is that run's, but where accesses meet.
 pub data RunsTold (isa : InstructionSet) (holds : Holding) (words : List Text) (source : From) (old new : Streams) (status : ℕ) : Type 0 where
@@ -141,18 +149,29 @@ RunsTarget isa before after words source (Some target) old new status =
 
 -- ---- memory that goes to files
 
--- what the words ask for writes so many bytes to each file
-abbrev pub AsksFor : List Text → (counts : List ℕ) → Type 0
-AsksFor words counts = IsSomeAnd (asked words) (λ ask. counts ≡ counts_asked ask)
+-- of what is asked for so many bytes go to each file, and this is said if it ends by its limit
+pub record IsKept (to_file : Bool) (kept : Kept) (ask : Ask) : Type 0 where
+  pub counts : kept.counts.items ≡ counts_asked ask
+  pub note : kept.note.items ≡ limit_note to_file ask
+
+-- this is kept of what the words ask for
+abbrev pub AsksFor : (to_file : Bool) → List Text → Kept → Type 0
+AsksFor to_file words kept = IsSomeAnd (asked words) (IsKept to_file kept)
 
 -- so it is, or the words ask for nothing
-abbrev pub AreCounts : List Text → Option (List ℕ) → Type 0
-AreCounts words None = IsRefused words
-AreCounts words (Some counts) = AsksFor words counts
+abbrev pub IsKeptOf : (to_file : Bool) → List Text → Option Kept → Type 0
+IsKeptOf to_file words None = IsRefused words
+IsKeptOf to_file words (Some kept) = AsksFor to_file words kept
 
--- so many files are named, and that is how many bytes go to each; words that ask for nothing have none
-abbrev pub AreCountsFor : (names : ℕ) → List Text → (counts : List ℕ) → Type 0
-AreCountsFor names words counts = (IsRefused words × (counts ≡ [])) ⊎ ((length counts ≡ names) × AsksFor words counts)
+-- so many files are named, and this is kept; of words that ask for nothing nothing is
+abbrev pub IsKeptFor : (names : ℕ) → (to_file : Bool) → List Text → Kept → Type 0
+IsKeptFor names to_file words kept =
+    (IsRefused words × (kept.counts.items ≡ []) × (kept.note.items ≡ [])) ⊎ ((length kept.counts.items ≡ names) × AsksFor to_file words kept)
+
+-- no file is named that memory goes to, and nothing is to be said
+abbrev pub is_plain : (dumps : List Text) → (note : List ℕ) → Bool
+is_plain [] [] = true
+is_plain _ _ = false
 
 -- the report goes to the output, or to the file of this name
 abbrev pub IsDelivered : (before after : Holding) → (target : Option (Bor Text)) → (report : List ℕ) → (done : ℕ) → (old new errors told : Option (List ℕ))
@@ -174,27 +193,35 @@ pub record IsUndone (before after : Holding) (done : ℕ) (old new : Streams) (s
   pub unwritten : Keeps old.output new.output
   pub silent : Keeps old.errors new.errors
 
--- A run whose answer ends with so many bytes for each of these files. They and the report are written where there is an answer.
-pub record RunsDumping (isa : InstructionSet) (before after : Holding) (words : List Text) (call : Call) (counts : List ℕ) (old new : Streams) (status : ℕ) : Type 0 where
+-- what is said behind an answer, if its run ended by its limit
+abbrev pub said_behind : Kept → (answer : List ℕ) → List ℕ
+said_behind kept answer = limit_said kept.note.items (report_in kept.counts.items answer)
+
+-- A run whose answer ends with so many bytes for each of these files. If it ended by its limit, that is said. The files and the report are
+-- written where there is an answer.
+pub record RunsDumping (isa : InstructionSet) (before after : Holding) (words : List Text) (call : Call) (kept : Kept) (old new : Streams) (status : ℕ) : Type 0 where
   pub answer : List ℕ
   pub done : ℕ
-  -- what the error stream holds then
+  -- what the error stream holds behind the run, and behind what is said of its limit
   pub told : Option (List ℕ)
+  pub noted : Option (List ℕ)
   pub runs : RunsWords isa before words (text_source call.source) (streams old.input (Some []) old.errors) (streams new.input (Some answer) told) done
-  pub made : is_made words done ≡ true → IsDumped before after call counts answer done (streams old.input old.output told) new status
+  pub limited : is_made words done ≡ true → Tells told noted (said_behind kept answer)
+  pub made : is_made words done ≡ true → IsDumped before after call kept.counts.items answer done (streams old.input old.output noted) new status
   pub none : is_made words done ≡ false → IsUndone before after done (streams old.input old.output told) new status
 
--- what a run does whose words write memory to files of these names, if to any
-abbrev pub RunsNaming : InstructionSet → List (Bor Text) → (before after : Holding) → List Text → Call → (old new : Streams) → (status : ℕ) → Type 0
-RunsNaming isa [] before after words call old new status = RunsTarget isa before after words (text_source call.source) call.target old new status
-RunsNaming isa (name ∷ names) before after words call old new status =
-    (counts : List ℕ) × AreCountsFor (length (name ∷ names)) (plain_words words) counts × RunsDumping isa before after words call counts old new status
+-- what a run does of which this is kept, if anything is
+abbrev pub RunsKeeping : (plain : Bool) → InstructionSet → (before after : Holding) → List Text → Call → Kept → (old new : Streams) → (status : ℕ) → Type 0
+RunsKeeping true isa before after words call kept old new status = RunsTarget isa before after words (text_source call.source) call.target old new status
+RunsKeeping false isa before after words call kept old new status = RunsDumping isa before after words call kept old new status
 
 -- what a call does, on its words with those of its files of settings in their places
 pub record RunsCall (isa : InstructionSet) (before after : Holding) (call : Call) (old new : Streams) (status : ℕ) : Type 0 where
   pub words : List Text
   pub expanded : Expands before (map text_piece call.words.items) words
-  pub runs : RunsNaming isa call.dumps.items before after words call old new status
+  pub kept : Kept
+  pub keeps : IsKeptFor (length call.dumps.items) (is_some call.target) (plain_words words) kept
+  pub runs : RunsKeeping (is_plain (texts call.dumps.items) kept.note.items) isa before after words call kept old new status
 
 -- files are as they were, but that memory may have been written to the first few of these
 abbrev pub HasBegun : (before after : Holding) → (names : List Text) → Type 0

@@ -50,11 +50,15 @@ behind_words blamed status = if status == 2 then blamed else []
 abbrev pub has_run : (status : ℕ) → Bool
 has_run status = status == 0 || status == 6
 
--- behind a text that is refused: what explains its fault; behind a run in which accesses fault: that they do; and behind another: where
--- accesses meet that are to be apart
+-- a text is refused, or packets aren't the same
+abbrev pub is_taught : (status : ℕ) → Bool
+is_taught status = status == 1 || status == 5
+
+-- behind a text that is refused: what explains its fault; behind packets that aren't the same: what is told of that; behind a run in which
+-- accesses fault: that they do; and behind another: where accesses meet that are to be apart
 abbrev pub behind_text : (refused apart faulted : List ℕ) → (status : ℕ) → List ℕ
 behind_text refused apart faulted status =
-    if status == 1 then refused else (if status == 7 then faulted else (if has_run status then apart else []))
+    if is_taught status then refused else (if status == 7 then faulted else (if has_run status then apart else []))
 
 -- where accesses meet that are to be apart, and else all is well, the status says so
 abbrev pub status_with : (meets : Bool) → (status : ℕ) → ℕ

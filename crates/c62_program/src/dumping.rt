@@ -1,13 +1,13 @@
-//! Runs a command that writes memory to files.
+//! Runs a command of which something is kept: memory that goes to files, or a report of which is said that its run ended by its limit.
 
-ghost use Rattle.std.specs.Prelude.{◌≡◌, true, IfOk, IfErr, OnOk, OnErr, map, option_map, string_bytes};
+ghost use Rattle.std.specs.Prelude.{◌≡◌, true, IfOk, IfErr, OnOk, OnErr, map, string_bytes};
 ghost use Rattle.std.specs.Io.KnownBytes.{Keeps};
 ghost use Rattle.c62_answer.specs.Run.{streams};
 ghost use Rattle.c62_dumping.specs.Cut.{files_of};
 ghost use Rattle.c62_files.specs.Words.{texts};
 ghost use Rattle.c62_files.specs.Writing.{AreBegun, AreWritten};
 ghost use Rattle.c62_teach.specs.Words.{plain_words};
-ghost use Rattle.c62_program.specs.Program.{AreCounts, AreCountsFor, HasBegun, IsDelivered, RunsDumping};
+ghost use Rattle.c62_program.specs.Program.{HasBegun, IsDelivered, IsKeptFor, IsKeptOf, RunsDumping, is_plain};
 ghost use Rattle.c62_program.specs.Trouble.{IsCountTrouble, IsTroubleDumping, IsTroubleWithCall, IsTroubleWritingTo, is_early};
 
 use crate::program::{is_made, run_words};
@@ -15,7 +15,7 @@ use crate::trouble::Trouble;
 use crate::written::status_behind;
 use c62_answer::write_whole;
 use c62_command::{CommandError, command_of};
-use c62_dumping::{counts_asked, files_of, parted};
+use c62_dumping::{counts_asked, files_of, limit_note, limit_said, parted};
 use c62_files::{Call, Folder, write_files};
 use c62_op::InstructionSet;
 use c62_teach::plain_words;
@@ -24,37 +24,60 @@ use std::io::{Read, Write};
 use std::sync::Wait;
 use std::thread::Threads;
 
-/// How many bytes go to each file that the words ask for. None where the words are refused.
-fn counts_of(alloc: Global, words: &[&str]) -> Result<Option<Vec<usize>>, AllocError>
-    ensures { IfOk result (λ counts. AreCounts (map (λ word. word.now) words.now) (option_map (λ c. c.items) counts)) }
+/// What is kept of a run.
+#[derive(Debug, Drop)]
+pub(crate) struct Kept {
+    /// How many bytes go to each file.
+    pub counts: Vec<usize>,
+    /// What is said if the run ends by its limit.
+    pub note: Vec<u8>,
+}
+
+/// What is kept of what the words ask for, where its answer goes to a file or not. None where the words are refused.
+fn kept_of(alloc: Global, to_file: bool, words: &[&str]) -> Result<Option<Kept>, AllocError>
+    ensures { IfOk result (IsKeptOf to_file (map (λ word. word.now) words.now)) }
 {
     match command_of(alloc, words) {
-        Ok(command) => Ok(Some(counts_asked(alloc, &command)?)),
+        Ok(command) => Ok(Some(Kept {
+            counts: counts_asked(alloc, &command)?,
+            note: limit_note(alloc, to_file, &command)?,
+        })),
         Err(CommandError::Memory) => Err(AllocError),
         Err(_) => Ok(None),
     }
 }
 
-/// How many bytes go to each of so many files that are named. Words that are refused have none: their run says why.
-pub(crate) fn counts_for<'a>(
+/// What is kept where so many files are named that memory goes to. Of words that are refused nothing is: their run says why.
+pub(crate) fn kept_for<'a>(
     alloc: Global,
     names: usize,
+    to_file: bool,
     words: &[String],
-) -> Result<Vec<usize>, Trouble<'a>>
-    ensures ok { IfOk result (λ counts. AreCountsFor names (plain_words (map string_bytes words.now)) counts.items) }
+) -> Result<Kept, Trouble<'a>>
+    ensures ok { IfOk result (IsKeptFor names to_file (plain_words (map string_bytes words.now))) }
     ensures err { IfErr result (IsCountTrouble names (plain_words (map string_bytes words.now))) }
 {
     let plain = plain_words(alloc, words)?;
-    match counts_of(alloc, &plain)? {
-        None => Ok(Vec::new(alloc)),
-        Some(counts) => {
-            if counts.len() == names {
-                Ok(counts)
+    match kept_of(alloc, to_file, &plain)? {
+        None => Ok(Kept {
+            counts: Vec::new(alloc),
+            note: Vec::new(alloc),
+        }),
+        Some(kept) => {
+            if kept.counts.len() == names {
+                Ok(kept)
             } else {
                 Err(Trouble::LooseDump)
             }
         }
     }
+}
+
+/// Whether a call keeps nothing of which more would be said or written than the command does.
+pub(crate) fn is_plain(dumps: &[&str], note: &[u8]) -> bool
+    ensures { result ≡ is_plain (texts dumps.now) note.now }
+{
+    dumps.is_empty() && note.is_empty()
 }
 
 /// Writes memory to files of these names, each with as many of the bytes as its count says.
@@ -104,8 +127,7 @@ fn deliver<'a, F: Folder, W: Write, E: Write>(
     }
 }
 
-/// Runs a command whose words write so many bytes to each file of a call. These are written first, and the report then says that they
-/// are.
+/// Runs a command of which something is kept. What goes to the files of a call is written first, and the report then says that it is.
 pub(crate) fn run_dumping<
     'a,
     H: AllocGlobal + Threads + Wait + Sync,
@@ -119,14 +141,14 @@ pub(crate) fn run_dumping<
     folder: &mut F,
     words: &[String],
     call: &Call<'a>,
-    counts: &[usize],
+    kept: &Kept,
     input: &mut R,
     output: &mut W,
     errors: &mut E,
 ) -> Result<u8, Trouble<'a>>
     ensures ok { let old = streams (R.remaining input.old) (W.contents output.old) (E.contents errors.old) in
         let new = streams (R.remaining input.new) (W.contents output.new) (E.contents errors.new) in
-        IfOk result (RunsDumping isa (F.holds folder.old) (F.holds folder.new) (map string_bytes words.now) call.now counts.now old new) }
+        IfOk result (RunsDumping isa (F.holds folder.old) (F.holds folder.new) (map string_bytes words.now) call.now kept.now old new) }
     ensures err { IfErr result (λ _. Keeps (W.contents output.old) (W.contents output.new)) }
     ensures silent { IfErr result (λ trouble. is_early trouble ≡ true → Keeps (E.contents errors.old) (E.contents errors.new)) }
     ensures kept { OnErr result (HasBegun (F.holds folder.old) (F.holds folder.new) (texts call.now.dumps.items)) }
@@ -146,8 +168,9 @@ pub(crate) fn run_dumping<
     if !is_made(words, status) {
         return Ok(status);
     }
-    let (report, memory) = parted(&answer, counts);
-    write_memory(rt.alloc(), folder, &call.dumps, counts, memory)?;
+    let (report, memory) = parted(&answer, &kept.counts);
+    let _ = write_whole(errors, limit_said(&kept.note, report));
+    write_memory(rt.alloc(), folder, &call.dumps, &kept.counts, memory)?;
     deliver(
         rt.alloc(),
         folder,

@@ -2,6 +2,7 @@
 #![tactic(auto)]
 
 mod dumping;
+mod ended;
 mod joined;
 mod page;
 mod program;
@@ -12,5 +13,6 @@ mod tracing;
 mod trouble;
 mod written;
 
+pub use ended::Ended;
 pub use page::{EXPLAIN, ISA, LINT, TRACE};
 pub use sets::run_program;

@@ -25,7 +25,8 @@ A run of sim or exec is told cycle by cycle, as in: c62 exec hand.asm --trace
 `c62 help trace` tells how.
 
 Status, and what standard error says:
-  0  done, and nothing is said but how many cycles were added to drain packets
+  0  done, and nothing is said but how many cycles were added to drain packets, or that a run
+     ended by its limit, where -o, --dump or --print keeps something of it
   1  the text is refused: `line 7: BadUnit` names its first faulty line and the fault;
      of a listing also `block 0: NotDrained`, or `block 0 cycle 3: P5` and the packet rule;
      of packets to be adopted also `line 7: NotDrained`, or `line 7: P5` and the packet rule;
@@ -34,7 +35,7 @@ Status, and what standard error says:
   2  the words are refused, by a text that says why, or `setting 2: bad`, or `load 2: past the end`
   3  no memory: `memory`
   4  a stream failed: `input` or `output`; or a file: `cannot read NAME: REASON`, `cannot write NAME: REASON`
-  5  checked, and not each block is the same: the output tells, and nothing is said; or with
+  5  checked, and not each block is the same: the output tells, and --explain says more; or with
      serial --apart, accesses met: lines behind the report tell where
   6  with --strict, a run ended by its limit; 7, an access faulted: the report tells
 docs/SERIAL_TEXT.md, docs/LISTING.md, docs/ADOPT.md, docs/EXEC.md and docs/CHECK.md tell what each fault is.
@@ -47,11 +48,14 @@ Prints the first fault of each faulty line of a text, as FILE:LINE:COLUMN: error
 Usage: c62 lint [--as <KIND>] [--most <N>] [--json] [-o <FILE>] [FILE]
 
 Options:
-      --as <KIND>  What the text is: serial (as pack reads it), listing (as sim reads it) or
-                   packets (as adopt reads them, with reads in delay slots as warnings);
-                   serial where none is given
-      --most <N>   Prints at most N faults, 1 to 1000; 100 where none is given
-      --json       Writes the same as a JSON document
+      --as <KIND>        What the text is: serial (as pack reads it), listing (as sim reads it) or
+                         packets (as adopt reads them, with reads in delay slots as warnings);
+                         serial where none is given
+      --most <N>         Prints at most N faults, 1 to 1000; 100 where none is given
+      --json             Writes the same as a JSON document
+      --isa <SET>        Takes the instructions of this set, core or full; core where none is given
+      --settings <FILE>  Takes the words of a file, in its place
+  -o <FILE>              Writes the answer to a file
 
 The status is 1 where the text is refused for a fault, and else 0.
 
@@ -61,7 +65,7 @@ Example:
 
 /// How `explain` is used.
 pub const EXPLAIN: &str = "\
-Prints what a fault or a packet rule is, with an example
+Prints what a fault, a packet rule, or a word of check or show is, with an example
 
 Usage: c62 explain <NAME>
 

@@ -11,10 +11,12 @@ ghost use Rattle.c62_program.specs.Trouble.{HasCallTrouble, IsTroubleWith, IsTro
 ghost use Rattle.c62_program.specs.Page.{page_asked, page_text};
 ghost use Rattle.c62_program.specs.Teaching.{is_topic};
 ghost use Rattle.c62_tracing.specs.Words.{is_traced};
+ghost use Rattle.c62_drawing.specs.declared.run.Traced.TheVariants.{Nothing};
 ghost use Rattle.c62_program.specs.Written.{IsWritten};
 ghost use Rattle.c62_program.specs.Program.{AreParts, HasBegun, IsGiven, IsHeld, EndsCall, IsRefused, RunsCall, RunsFrom, RunsTarget, RunsTo, RunsWords, is_made};
 
-use crate::dumping::{counts_for, run_dumping};
+use crate::dumping::{is_plain, kept_for, run_dumping};
+use crate::ended::Ended;
 use crate::joined::joined;
 use crate::page::{Page, page_asked, write_page};
 use crate::teaching::{run_lint, run_told};
@@ -24,9 +26,10 @@ use crate::trouble::{Trouble, report};
 use crate::written::status_behind;
 use c62_answer::{InputError, MOST_BYTES, read_text, run_tool};
 use c62_command::{CommandError, command_of};
+use c62_drawing::Traced;
 use c62_files::{Call, Folder, Source, call_of, expanded};
 use c62_op::InstructionSet;
-use c62_teach::{is_explained, is_lint, is_strict, is_watched};
+use c62_teach::{is_explained, is_lint, is_strict, is_watched, names_memory};
 use c62_tracing::is_traced;
 use std::alloc::{AllocError, Global};
 use std::convert::AsStr;
@@ -161,7 +164,7 @@ pub(crate) fn run_words<
     if is_lint(words) {
         return Ok(run_lint(isa, rt, folder, words, source, input, output, errors)?);
     }
-    if is_explained(words) || is_strict(words) || is_watched(words) {
+    if is_explained(words) || is_strict(words) || is_watched(words) || names_memory(words) {
         return Ok(run_told(isa, rt, folder, words, source, input, output, errors)?);
     }
     Ok(run_from(isa, rt, folder, words, source, input, output, errors)?)
@@ -250,13 +253,11 @@ fn run_call<'a, H: AllocGlobal + Threads + Wait + Sync, F: Folder, R: Read, W: W
         Ok(words) => words,
         Err(error) => return Err(Trouble::of_words(error)),
     };
-    let counts = counts_for(rt.alloc(), call.dumps.len(), &words)?;
-    match call.dumps.as_slice() {
-        [] => run_target(isa, rt, folder, &words, call, input, output, errors),
-        [_, ..] => run_dumping(
-            isa, rt, folder, &words, call, &counts, input, output, errors,
-        ),
+    let kept = kept_for(rt.alloc(), call.dumps.len(), call.target.is_some(), &words)?;
+    if is_plain(&call.dumps, &kept.note) {
+        return run_target(isa, rt, folder, &words, call, input, output, errors);
     }
+    run_dumping(isa, rt, folder, &words, call, &kept, input, output, errors)
 }
 
 /// Prints a page, and answers the status.
@@ -327,7 +328,7 @@ fn run_others<
     requires traced { is_traced (map S.text words.now) ≡ false }
     ensures { let old = streams (R.remaining input.old) (W.contents output.old) (E.contents errors.old) in
         let new = streams (R.remaining input.new) (W.contents output.new) (E.contents errors.new) in
-        IsProgramRun isa (F.holds folder.old) (F.holds folder.new) (map S.text words.now) old new result }
+        IsProgramRun isa (F.holds folder.old) (F.holds folder.new) (map S.text words.now) old new result Nothing }
 {
     let call = match call_of(rt.alloc(), words) {
         Ok(call) => call,
@@ -339,7 +340,7 @@ fn run_others<
     }
 }
 
-/// Runs the program by this set of instructions on words that name no set. Answers the stream of errors, and the status.
+/// Runs the program by this set of instructions on words that name no set.
 pub(crate) fn run_with<
     H: AllocGlobal + Threads + Wait + Sync,
     F: Folder,
@@ -355,23 +356,35 @@ pub(crate) fn run_with<
     input: &mut R,
     output: &mut W,
     errors: E,
-) -> (E, u8)
+) -> Ended<E>
     ensures { let old = streams (R.remaining input.old) (W.contents output.old) (E.contents errors) in
-        let new = streams (R.remaining input.new) (W.contents output.new) (E.contents result.0) in
-        IsProgramRun isa (F.holds folder.old) (F.holds folder.new) (map S.text words.now) old new result.1 }
+        let new = streams (R.remaining input.new) (W.contents output.new) (E.contents result.errors) in
+        IsProgramRun isa (F.holds folder.old) (F.holds folder.new) (map S.text words.now) old new result.status result.traced }
 {
     let mut errors = errors;
     if let Some(page) = page_asked(words) {
         let status = print_page(page, output, &mut errors);
-        return (errors, status);
+        return Ended {
+            errors,
+            status,
+            traced: Traced::Nothing,
+        };
     }
     if is_topic(words) {
         let status = run_topic(rt.alloc(), words, output, &mut errors);
-        return (errors, status);
+        return Ended {
+            errors,
+            status,
+            traced: Traced::Nothing,
+        };
     }
     if is_traced(words) {
         return run_traced(isa, rt, folder, words, input, output, errors);
     }
     let status = run_others(isa, rt, folder, words, input, output, &mut errors);
-    (errors, status)
+    Ended {
+        errors,
+        status,
+        traced: Traced::Nothing,
+    }
 }

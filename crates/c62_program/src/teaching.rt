@@ -5,8 +5,8 @@ ghost use Rattle.std.specs.Io.KnownBytes.{Keeps};
 ghost use Rattle.c62_answer.specs.Run.{streams};
 ghost use Rattle.c62_files.specs.Call.{text_source};
 ghost use Rattle.c62_command.specs.CommandLine.{ask_of, ask_told};
-ghost use Rattle.c62_teach.specs.Setting.{setting_taught};
-ghost use Rattle.c62_program.specs.Program.{IsAsked, RunsLint, RunsTold};
+ghost use Rattle.c62_command.specs.declared.command.CommandError.TheVariants.{Setting};
+ghost use Rattle.c62_program.specs.Program.{IsAsked, RunsLint, RunsTold, is_memory_setting, refusal_taught};
 ghost use Rattle.c62_program.specs.Trouble.{IsTroubleWithSource};
 ghost use Rattle.c62_program.specs.Teaching.{AreTold, IsLintRun, RunsMore, TeachesWanted, behind_text, behind_words, listing_name, status_by, status_with, text_name};
 
@@ -15,12 +15,12 @@ use crate::program::given;
 use crate::trouble::Trouble;
 use crate::written::status_behind;
 use c62_answer::{run_tool, write_whole};
-use c62_command::{Command, CommandError, Request, command_of};
+use c62_command::{Command, CommandError, Request, command_of, setting_at};
 use c62_files::{Folder, Source};
 use c62_op::InstructionSet;
 use c62_teach::{
-    Linted, Names, Watched, apart_told, faults_told, is_explained, lint_text, linting_of,
-    plain_words, setting_taught, taught,
+    Linted, Names, Watched, apart_told, faults_told, is_explained, is_of_memory, lint_blame,
+    lint_text, linting_of, plain_words, setting_taught, taught,
 };
 use std::alloc::{AllocError, Global};
 use std::io::{Read, Write};
@@ -83,7 +83,9 @@ pub fn run_lint<'a, H: AllocGlobal, F: Folder, R: Read, W: Write, E: Write>(
 {
     let wanted = linting_of(rt.alloc(), words)?;
     let Some(linting) = wanted else {
-        let _ = write_whole(errors, LINT.as_bytes());
+        let mut why = lint_blame(rt.alloc(), words)?;
+        why.extend_from_slice(LINT.as_bytes())?;
+        let _ = write_whole(errors, &why);
         return Ok(2);
     };
     let bytes = given(rt.alloc(), folder, source, input)?;
@@ -104,16 +106,27 @@ enum Asked {
     Unknown(Vec<u8>),
 }
 
-/// What explains why this setting is none, where that is wanted.
+/// Whether the setting of this number is one for which an option of memory stands.
+fn is_memory_setting(alloc: Global, words: &[&str], number: usize) -> Result<bool, AllocError>
+    ensures { IfOk result (λ is. is ≡ is_memory_setting (map (λ word. word.now) words.now) number) }
+{
+    match setting_at(alloc, words, number)? {
+        Some(word) => Ok(is_of_memory(word)),
+        None => Ok(false),
+    }
+}
+
+/// What explains why this setting is none, where that is wanted, or an option of memory stands for it.
 fn setting_told(
     alloc: Global,
     wanted: bool,
     words: &[&str],
     number: usize,
 ) -> Result<Vec<u8>, AllocError>
-    ensures { IfOk result (λ more. more.items ≡ (if wanted then setting_taught (map (λ word. word.now) words.now) number else [])) }
+    ensures { IfOk result (λ more. more.items ≡ refusal_taught wanted (map (λ word. word.now) words.now) (Setting number)) }
 {
-    if wanted {
+    let of_memory = is_memory_setting(alloc, words, number)?;
+    if wanted || of_memory {
         setting_taught(alloc, words, number)
     } else {
         Ok(Vec::new(alloc))
@@ -121,7 +134,7 @@ fn setting_told(
 }
 
 /// What words ask for; where they ask for nothing, they are refused.
-#[tactic(auto, using(crate::proofs::Taught::refused_setting, crate::proofs::Taught::refused_promise, crate::proofs::Taught::refused_ways, crate::proofs::Taught::refused_words))]
+#[tactic(auto, using(crate::proofs::Taught::refused_setting, crate::proofs::Taught::refused_promise, crate::proofs::Taught::refused_excluded, crate::proofs::Taught::refused_words))]
 fn asked_of(alloc: Global, wanted: bool, words: &[&str]) -> Result<Asked, AllocError>
     ensures { IfOk result (IsAsked wanted (map (λ word. word.now) words.now)) }
 {
@@ -132,7 +145,7 @@ fn asked_of(alloc: Global, wanted: bool, words: &[&str]) -> Result<Asked, AllocE
             alloc, wanted, words, number,
         )?)),
         Err(CommandError::Promise(_)) => Ok(Asked::Unknown(Vec::new(alloc))),
-        Err(CommandError::Ways) => Ok(Asked::Unknown(Vec::new(alloc))),
+        Err(CommandError::Excluded(_)) => Ok(Asked::Unknown(Vec::new(alloc))),
         Err(CommandError::Words(_)) => Ok(Asked::Unknown(Vec::new(alloc))),
     }
 }
@@ -169,7 +182,7 @@ fn run_nothing<H: AllocGlobal + Threads + Wait + Sync, R: Read, W: Write, E: Wri
 /// What is told of a text.
 #[derive(Drop)]
 struct Told {
-    /// Why it is refused.
+    /// Why it is refused, or what is told of a difference.
     refused: Vec<u8>,
     /// Where accesses meet that are to be apart.
     apart: Watched,
@@ -184,7 +197,7 @@ impl Told {
     {
         match status {
             0 | 6 => &self.apart.lines,
-            1 => &self.refused,
+            1 | 5 => &self.refused,
             7 => &self.faulted,
             _ => &[],
         }
@@ -280,8 +293,9 @@ fn run_on<H: AllocGlobal + Threads + Wait + Sync, W: Write, E: Write>(
     status
 }
 
-/// Runs a command on what its source gives. Where it refuses that, it tells more of the fault if that is asked for, behind a serial run where
-/// accesses meet that are to be apart, and behind a strict run the accesses that fault. Files are read only where the words ask for something.
+/// Runs a command on what its source gives. Where that is asked for, it tells more behind a text that is refused and packets that aren't the
+/// same. It tells more behind a serial run where accesses meet that are to be apart, and behind a strict run the accesses that fault. Files are
+/// read only where the words ask for something.
 pub fn run_told<'a, H: AllocGlobal + Threads + Wait + Sync, F: Folder, R: Read, W: Write, E: Write>(
     isa: InstructionSet,
     rt: &H,

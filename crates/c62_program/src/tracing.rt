@@ -9,6 +9,7 @@ ghost use Rattle.c62_answer.specs.Message.{Tells};
 ghost use Rattle.c62_program.specs.Trouble.{IsTroubleWriting, Says, status_of};
 ghost use Rattle.c62_program.specs.Tracing.{AreTraced, EndsSheet, FindsCommand, EndsOn, EndsRead, IsCallOn, IsTextTraced, IsTracedRun, IsTracedTo, IsTroubleTracing, IsTroubleTracingTo, IsTroubleWavingTo, IsWavedTo, LeavesErrors, LeavesFiles, RunsTraced, DrawsToFile, read_source};
 
+use crate::ended::Ended;
 use crate::page::TRACE;
 use crate::program::{end_call, give_up, given};
 use crate::trouble::Trouble;
@@ -46,7 +47,7 @@ fn end_traced<F: Folder>(
             Ok(())
         }
         Traced::Whole => end_sheet(alloc, folder, name, sheet, true),
-        Traced::Cut => end_sheet(alloc, folder, name, sheet, false),
+        Traced::Cut(_) => end_sheet(alloc, folder, name, sheet, false),
     }
 }
 
@@ -97,7 +98,7 @@ fn draw_to<'a, F: Folder>(
     }
 }
 
-/// Writes the trace of a run to where it goes, if it is asked for. Gives back the stream of errors.
+/// Writes the trace of a run to where it goes, if it is asked for. Gives back the stream of errors, and what that got of it.
 fn trace_to<'a, F: Folder, E: Write + Drop>(
     isa: InstructionSet,
     alloc: Global,
@@ -107,20 +108,20 @@ fn trace_to<'a, F: Folder, E: Write + Drop>(
     request: &Request,
     text: &[u8],
     errors: E,
-) -> (E, Result<(), Trouble<'a>>)
-    ensures ok { IfOk result.1 (λ _. IsTracedTo isa (F.holds folder.old) (F.holds folder.new) window request.now text.now (option_map text_to to.entry)
-        (E.contents errors) (E.contents result.0)) }
+) -> (E, Result<Traced, Trouble<'a>>)
+    ensures ok { IfOk result.1 (λ traced. IsTracedTo isa (F.holds folder.old) (F.holds folder.new) window request.now text.now
+        (option_map text_to to.entry) (E.contents errors) (E.contents result.0) traced) }
     ensures files { OnErr result.1 (F.holds folder.new ≡ F.holds folder.old) }
     ensures errors { OnErr result.1 (LeavesErrors (option_map text_to to.entry) (E.contents errors) (E.contents result.0)) }
     ensures why { IfErr result.1 (IsTroubleTracingTo (option_map text_to to.entry)) }
 {
     match to {
-        None => (errors, Ok(())),
+        None => (errors, Ok(Traced::Nothing)),
         Some(Destination::Errors) => {
             let drawn = Drawn::Trace;
             let (errors, traced) = draw_text(isa, alloc, drawn, request, window, 0, text, errors);
             match traced {
-                Ok(_) => (errors, Ok(())),
+                Ok(traced) => (errors, Ok(traced)),
                 Err(_) => (errors, Err(Trouble::Memory)),
             }
         }
@@ -135,7 +136,10 @@ fn trace_to<'a, F: Folder, E: Write + Drop>(
                 request,
                 text,
             );
-            (errors, written)
+            match written {
+                Ok(()) => (errors, Ok(Traced::Nothing)),
+                Err(trouble) => (errors, Err(trouble)),
+            }
         }
     }
 }
@@ -160,7 +164,7 @@ fn wave_to<'a, F: Folder>(
     }
 }
 
-/// Writes what is asked for of a run: its trace, and then its waveform. Gives back the stream of errors.
+/// Writes what is asked for of a run: its trace, and then its waveform. Gives back the stream of errors, and what that got of the trace.
 #[tactic(auto, using(crate::proofs::Traced::leaves_files, crate::proofs::Traced::leaves_errors))]
 fn write_traced<'a, F: Folder, E: Write + Drop>(
     isa: InstructionSet,
@@ -170,9 +174,9 @@ fn write_traced<'a, F: Folder, E: Write + Drop>(
     request: &Request,
     text: &[u8],
     errors: E,
-) -> (E, Result<(), Trouble<'a>>)
-    ensures ok { IfOk result.1 (λ _. AreTraced isa (F.holds folder.old) (F.holds folder.new) (told_in tracing.now) request.now text.now
-        (E.contents errors) (E.contents result.0)) }
+) -> (E, Result<Traced, Trouble<'a>>)
+    ensures ok { IfOk result.1 (λ traced. AreTraced isa (F.holds folder.old) (F.holds folder.new) (told_in tracing.now) request.now text.now
+        (E.contents errors) (E.contents result.0) traced) }
     ensures files { OnErr result.1 (LeavesFiles (F.holds folder.old) (F.holds folder.new) (told_in tracing.now).trace) }
     ensures errors { OnErr result.1 (LeavesErrors (told_in tracing.now).trace (E.contents errors) (E.contents result.0)) }
     ensures why { IfErr result.1 (λ trouble. IsTroubleTracingTo (told_in tracing.now).trace trouble ⊎ IsTroubleWavingTo (told_in tracing.now).vcd trouble) }
@@ -191,11 +195,12 @@ fn write_traced<'a, F: Folder, E: Write + Drop>(
         text,
         errors,
     );
-    match traced {
-        Ok(()) => {
-            let waved = wave_to(isa, alloc, folder, tracing.vcd, window, request, text);
-            (errors, waved)
-        }
+    let traced = match traced {
+        Ok(traced) => traced,
+        Err(trouble) => return (errors, Err(trouble)),
+    };
+    match wave_to(isa, alloc, folder, tracing.vcd, window, request, text) {
+        Ok(()) => (errors, Ok(traced)),
         Err(trouble) => (errors, Err(trouble)),
     }
 }
@@ -251,7 +256,8 @@ fn call_on<'w, 'a: 'w>(
     })
 }
 
-/// The text of a call of these words, whose trace is written; none where they ask for nothing. Gives back the stream of errors.
+/// The text of a call of these words, whose trace is written; none where they ask for nothing. Gives back the stream of errors, and what
+/// that got of the trace.
 #[tactic(auto, using(crate::proofs::Traced::same_files, crate::proofs::Traced::same_errors))]
 fn text_traced<'a, F: Folder, R: Read, E: Write + Drop>(
     isa: InstructionSet,
@@ -262,17 +268,17 @@ fn text_traced<'a, F: Folder, R: Read, E: Write + Drop>(
     source: Source<'a>,
     input: &mut R,
     errors: E,
-) -> (E, Result<Option<Vec<u8>>, Trouble<'a>>)
-    ensures ok { IfOk result.1 (λ text. IsTextTraced isa (F.holds folder.old) (F.holds folder.new) (told_in tracing.now) (map string_bytes words.now)
-        (text_source source.entry) (R.remaining input.old) (R.remaining input.new) (option_map (λ bytes. bytes.items) text)
-        (E.contents errors) (E.contents result.0)) }
+) -> (E, Result<(Option<Vec<u8>>, Traced), Trouble<'a>>)
+    ensures ok { IfOk result.1 (λ read. IsTextTraced isa (F.holds folder.old) (F.holds folder.new) (told_in tracing.now) (map string_bytes words.now)
+        (text_source source.entry) (R.remaining input.old) (R.remaining input.new) (option_map (λ bytes. bytes.items) read.0)
+        (E.contents errors) (E.contents result.0) read.1) }
     ensures files { OnErr result.1 (LeavesFiles (F.holds folder.old) (F.holds folder.new) (told_in tracing.now).trace) }
     ensures errors { OnErr result.1 (LeavesErrors (told_in tracing.now).trace (E.contents errors) (E.contents result.0)) }
     ensures why { IfErr result.1 (IsTroubleTracing (told_in tracing.now) (text_source source.entry)) }
 {
     let command = match command_for(alloc, words) {
         Ok(Some(command)) => command,
-        Ok(None) => return (errors, Ok(None)),
+        Ok(None) => return (errors, Ok((None, Traced::Nothing))),
         Err(_) => return (errors, Err(Trouble::Memory)),
     };
     let text = match given(alloc, folder, source, input) {
@@ -289,7 +295,7 @@ fn text_traced<'a, F: Folder, R: Read, E: Write + Drop>(
         errors,
     );
     match written {
-        Ok(()) => (errors, Ok(Some(text))),
+        Ok(traced) => (errors, Ok((Some(text), traced))),
         Err(trouble) => (errors, Err(trouble)),
     }
 }
@@ -383,17 +389,21 @@ fn bytes_of(text: &Option<Vec<u8>>) -> Option<&[u8]>
     }
 }
 
-/// Says what the trouble is, and answers its status. Gives back the stream of errors.
-pub(crate) fn tell_trouble<E: Write>(trouble: &Trouble<'_>, errors: E) -> (E, u8)
-    ensures status { result.1 ≡ status_of trouble.now }
-    ensures said { Says Tells trouble.now (E.contents errors) (E.contents result.0) }
+/// Says what the trouble is, and answers its status.
+pub(crate) fn tell_trouble<E: Write>(trouble: &Trouble<'_>, errors: E) -> Ended<E>
+    ensures status { result.status ≡ status_of trouble.now }
+    ensures said { Says Tells trouble.now (E.contents errors) (E.contents result.errors) }
 {
     let mut errors = errors;
     let status = give_up(trouble, &mut errors);
-    (errors, status)
+    Ended {
+        errors,
+        status,
+        traced: Traced::Nothing,
+    }
 }
 
-/// Does what a call asks for, and writes the trace of its run before. Gives back the stream of errors.
+/// Does what a call asks for, and writes the trace of its run before.
 fn run_call_traced<
     'a,
     H: AllocGlobal + Threads + Wait + Sync,
@@ -410,10 +420,10 @@ fn run_call_traced<
     input: &mut R,
     output: &mut W,
     errors: E,
-) -> (E, u8)
+) -> Ended<E>
     ensures { let old = streams (R.remaining input.old) (W.contents output.old) (E.contents errors) in
-        let new = streams (R.remaining input.new) (W.contents output.new) (E.contents result.0) in
-        RunsTraced isa (F.holds folder.old) (F.holds folder.new) (told_in tracing.now) call.now old new result.1 }
+        let new = streams (R.remaining input.new) (W.contents output.new) (E.contents result.errors) in
+        RunsTraced isa (F.holds folder.old) (F.holds folder.new) (told_in tracing.now) call.now old new result.status result.traced }
 {
     let words = match expanded(rt.alloc(), folder, &call.words) {
         Ok(words) => words,
@@ -429,8 +439,8 @@ fn run_call_traced<
         input,
         errors,
     );
-    let text = match text {
-        Ok(text) => text,
+    let read = match text {
+        Ok(read) => read,
         Err(trouble) => return tell_trouble(&trouble, errors),
     };
     let status = answer_call(
@@ -439,26 +449,34 @@ fn run_call_traced<
         folder,
         call,
         &words,
-        bytes_of(&text),
+        bytes_of(&read.0),
         input,
         output,
         &mut errors,
     );
-    (errors, status)
+    Ended {
+        errors,
+        status,
+        traced: read.1,
+    }
 }
 
-/// Says what words for a trace are. Gives back the stream of errors.
-fn tell_words<E: Write>(errors: E) -> (E, u8)
-    ensures status { result.1 ≡ 2 }
-    ensures said { Tells (E.contents errors) (E.contents result.0) TRACE.now }
+/// Says what words for a trace are.
+fn tell_words<E: Write>(errors: E) -> Ended<E>
+    ensures status { result.status ≡ 2 }
+    ensures said { Tells (E.contents errors) (E.contents result.errors) TRACE.now }
 {
     let mut errors = errors;
     let _ = write_whole(&mut errors, TRACE.as_bytes());
-    (errors, 2)
+    Ended {
+        errors,
+        status: 2,
+        traced: Traced::Nothing,
+    }
 }
 
 /// Does what words ask for that ask for a trace, and writes that before: to standard error or to a file, and the waveform to a file.
-/// The text is read once. Gives back the stream of errors.
+/// The text is read once.
 pub fn run_traced<
     H: AllocGlobal + Threads + Wait + Sync,
     F: Folder,
@@ -474,10 +492,10 @@ pub fn run_traced<
     input: &mut R,
     output: &mut W,
     errors: E,
-) -> (E, u8)
+) -> Ended<E>
     ensures { let old = streams (R.remaining input.old) (W.contents output.old) (E.contents errors) in
-        let new = streams (R.remaining input.new) (W.contents output.new) (E.contents result.0) in
-        IsTracedRun isa (F.holds folder.old) (F.holds folder.new) (map S.text words.now) old new result.1 }
+        let new = streams (R.remaining input.new) (W.contents output.new) (E.contents result.errors) in
+        IsTracedRun isa (F.holds folder.old) (F.holds folder.new) (map S.text words.now) old new result.status result.traced }
 {
     let tracing = match tracing_of(rt.alloc(), words) {
         Ok(Some(tracing)) => tracing,

@@ -6,10 +6,9 @@ ghost use Rattle.c62_program.specs.Trouble.{IsTroubleWith, IsTroubleWriting, Say
 ghost use Rattle.c62_program.specs.declared.trouble.Trouble.TheVariants.{Memory};
 
 use c62_answer::{Refused, show, write_pieces, write_whole};
-use c62_files::{CallError, FileError, Misfit, Unexpanded};
+use c62_files::{CallError, FileError, Misfit, Reason, Unexpanded};
 use itoa::Buffer;
 use std::alloc::AllocError;
-use std::io;
 use std::io::Write;
 
 /// Why words and files make no run.
@@ -18,9 +17,9 @@ pub enum Trouble<'a> {
     /// The words make no call.
     NoCall(CallError<'a>),
     /// The file of this name can't be read.
-    Unread(&'a str, io::Error),
+    Unread(&'a str, Reason),
     /// The file of this name can't be written.
-    Unwritten(&'a str, io::Error),
+    Unwritten(&'a str, Reason),
     /// The file that the load of this number, from 1, puts into memory doesn't fit there.
     NoLoad(usize, Misfit),
     /// A word stands for `--dump`, and no file is named for it.
@@ -47,7 +46,7 @@ impl<'a> Trouble<'a> {
     {
         match error {
             FileError::Memory => Trouble::Memory,
-            FileError::Failed(error) => Trouble::Unread(name, error),
+            FileError::Failed(reason) => Trouble::Unread(name, reason),
         }
     }
 
@@ -57,7 +56,7 @@ impl<'a> Trouble<'a> {
     {
         match error {
             FileError::Memory => Trouble::Memory,
-            FileError::Failed(error) => Trouble::Unwritten(name, error),
+            FileError::Failed(reason) => Trouble::Unwritten(name, reason),
         }
     }
 
@@ -154,15 +153,18 @@ fn print_load<E: Write>(errors: &mut E, number: usize, misfit: Misfit) -> Result
     )
 }
 
-/// Tells `cannot read NAME: REASON`, or what else can't be done with the file.
+/// Tells `cannot read NAME: REASON`, or what else can't be done with the file. The reason may name another file first.
 fn tell_file<E: Write>(
     errors: &mut E,
     what: &str,
     name: &str,
-    error: &io::Error,
+    reason: &Reason,
 ) -> Result<(), Refused> {
     write_pieces(errors, &[what, name, ": "])?;
-    show(errors, error)?;
+    if let Some(file) = &reason.file {
+        write_pieces(errors, &[file.as_str(), ": "])?;
+    }
+    show(errors, &reason.error)?;
     write_whole(errors, b"\n")
 }
 
@@ -176,8 +178,8 @@ pub fn report<E: Write>(errors: &mut E, trouble: &Trouble<'_>) -> Result<(), Ref
 {
     match trouble {
         Trouble::NoCall(error) => tell_call(errors, error),
-        Trouble::Unread(name, error) => tell_file(errors, "cannot read ", *name, error),
-        Trouble::Unwritten(name, error) => tell_file(errors, "cannot write ", *name, error),
+        Trouble::Unread(name, reason) => tell_file(errors, "cannot read ", *name, reason),
+        Trouble::Unwritten(name, reason) => tell_file(errors, "cannot write ", *name, reason),
         Trouble::NoLoad(number, misfit) => print_load(errors, *number, *misfit),
         Trouble::LooseDump => write_whole(
             errors,

@@ -8,7 +8,7 @@ use Rattle.c62_grid.specs.Grid.{grid}
 use Rattle.c62_show.specs.Head.{name, size}
 use Rattle.c62_show.specs.Limits.{least_of}
 use Rattle.c62_show.specs.Laws.{BeginsWith, IsHeaded}
-use Rattle.c62_show.specs.Picture.{block_rows, block_text, limit_lines, marked, rows_of}
+use Rattle.c62_show.specs.Picture.{block_rows, block_text, limit_lines, rows_of}
 use Rattle.c62_show.specs.Registers.{register_lines}
 use Rattle.c62_show.specs.Summary.{head_text, size_of}
 use Rattle.c62_show.specs.Whys.{whys_table}
@@ -36,7 +36,7 @@ unfolding block_rows
 rows_begin widths shown =
     let head = size (length shown.packets.placed) shown.packets.cycles (option_map least_of shown.limits) in
     let limits = limit_lines shown.limits in
-    let drawn = grid widths (marked shown.limits) shown.packets.cycles shown.packets.placed in
+    let drawn = grid widths shown.critical.items shown.packets.cycles shown.packets.placed in
     let whys = whys_table shown.whys.items in
     more_below (((head ++ limits) ++ drawn) ++ whys) head (register_lines shown.lives)
     (more_below ((head ++ limits) ++ drawn) head whys

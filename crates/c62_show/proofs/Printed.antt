@@ -22,7 +22,7 @@ use Rattle.c62_grid.specs.Grid.{use_row}
 use Rattle.c62_show.specs.Head.{name, size}
 use Rattle.c62_show.specs.Limits.{least_of}
 use Rattle.c62_show.specs.Laws.{AreAllPrinted, HasPart}
-use Rattle.c62_show.specs.Picture.{block_rows, block_text, blocks_from, gap, limit_lines, marked, rows_of, widths_of}
+use Rattle.c62_show.specs.Picture.{block_rows, block_text, blocks_from, gap, limit_lines, rows_of, widths_of}
 use Rattle.c62_show.specs.Whys.{whys_table}
 use Rattle.c62_show.specs.Registers.{register_lines}
 use Rattle.c62_grid.specs.Words.{line}
@@ -125,13 +125,13 @@ grid_part widths path cycles placed part has =
 -- ---- the block
 
 rows_part : (widths : Widths) (shown : Shown) (part : List ℕ)
-    → HasPart (grid widths (marked shown.limits) shown.packets.cycles shown.packets.placed) part
+    → HasPart (grid widths shown.critical.items shown.packets.cycles shown.packets.placed) part
     → HasPart (block_rows widths shown) part
 unfolding block_rows
 rows_part widths shown part has =
     let above = size (length shown.packets.placed) shown.packets.cycles (option_map least_of shown.limits) ++
     limit_lines shown.limits in
-    let drawn = grid widths (marked shown.limits) shown.packets.cycles shown.packets.placed in
+    let drawn = grid widths shown.critical.items shown.packets.cycles shown.packets.placed in
     before_text ((above ++ drawn) ++ whys_table shown.whys.items) (register_lines shown.lives) part
     (before_text (above ++ drawn) (whys_table shown.whys.items) part (behind_text above drawn part has))
 
@@ -177,7 +177,7 @@ before_end each k p sound at =
 pub all_printed : (shown : List Shown) → AreAllPrinted shown
 all_printed shown number k each p at sound placed =
     let widths = widths_of shown in
-    let path = marked each.limits in
+    let path = each.critical.items in
     let row = line (cycle_row widths path each.packets.placed p.cycle) in
     let printed = row_part widths path each.packets.cycles each.packets.placed p.cycle
     (before_end each k p sound placed) (issued_in each.packets.placed k p placed) in

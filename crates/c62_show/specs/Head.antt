@@ -75,11 +75,10 @@ step_words step = codes " -" ++ shared_words step.reason ++ codes ":" ++ signed_
 abbrev pub line_at : List ℕ → ℕ → ℕ
 line_at path place = unwrap_or (slice_get path place) 0
 
--- `42 lines from 25 to 254, marked *`
+-- `42 lines from 25 to 254`
 unfoldable pub path_ends : List ℕ → List ℕ
 path_ends path =
     decimal (length path) ++ codes " lines from " ++ decimal (line_at path 0) ++ codes " to " ++ decimal (line_at path (length path - 1))
-    ++ codes ", marked *"
 
 -- `lines 12 -A5:5- 13 -A6:1- 14`
 unfoldable pub bound_words : List ℕ → List Step → List ℕ

@@ -16,7 +16,7 @@ use Rattle.c62_show.specs.Limits.{AreLimits, least_of}
 use Rattle.c62_show.specs.Head.{verdict, none_is_shorter}
 use Rattle.c62_grid.specs.declared.widths.Widths.{Widths}
 use Rattle.c62_grid.specs.Grid.{cells, cycle_row, insn_cell, is_issued, is_on, next_issue, packet}
-use Rattle.c62_show.specs.Picture.{block_text, marked, picture, widths_of}
+use Rattle.c62_show.specs.Picture.{block_text, picture, widths_of}
 use Rattle.c62_show.specs.Summary.{head_text}
 use Rattle.c62_grid.specs.Words.{line}
 
@@ -68,8 +68,8 @@ pub record HasPart (text part : List ℕ) : Type 0 where
 -- An instruction's row is printed, and in its cells that of the instruction: its line, the mark where that is on the path, and its
 -- mnemonic.
 pub record IsPrinted (shown : List Shown) (each : Shown) (p : Placed) : Type 0 where
-  pub row : HasPart (picture shown) (line (cycle_row (widths_of shown) (marked each.limits) each.packets.placed p.cycle))
-  pub cell : HasPart (cells (widths_of shown) (marked each.limits) (packet each.packets.placed p.cycle)) (insn_cell (widths_of shown) (marked each.limits) p)
+  pub row : HasPart (picture shown) (line (cycle_row (widths_of shown) each.critical.items each.packets.placed p.cycle))
+  pub cell : HasPart (cells (widths_of shown) each.critical.items (packet each.packets.placed p.cycle)) (insn_cell (widths_of shown) each.critical.items p)
 
 -- so is that of each instruction of the blocks
 abbrev pub AreAllPrinted : List Shown → Type 0

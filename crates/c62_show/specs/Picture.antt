@@ -16,17 +16,12 @@ abbrev pub limit_lines : Option Limits → List ℕ
 limit_lines None = []
 limit_lines (Some limits) = path_line limits ++ units_line limits.need
 
--- the lines that are marked: those of the critical path, where it is known
-abbrev pub marked : Option Limits → List ℕ
-marked None = []
-marked (Some limits) = limits.path.items
-
 -- what is told of a block that has instructions, behind its name
 unfoldable pub block_rows : Widths → Shown → List ℕ
 block_rows widths shown =
     size (length shown.packets.placed) shown.packets.cycles (option_map least_of shown.limits)
     ++ limit_lines shown.limits
-    ++ grid widths (marked shown.limits) shown.packets.cycles shown.packets.placed
+    ++ grid widths shown.critical.items shown.packets.cycles shown.packets.placed
     ++ whys_table shown.whys.items
     ++ register_lines shown.lives
 

@@ -10,6 +10,7 @@ use Rattle.c62_why.specs.declared.held.Held.{Held as Dependence}
 use Rattle.c62_why.specs.declared.taken.Taken.{Taken as Lack}
 use Rattle.c62_why.specs.declared.why.Why.{Why}
 use Rattle.c62_why.specs.declared.why.Cause.{Cause}
+use Rattle.c62_why.specs.declared.why.Shortage.{Shortage}
 use Rattle.c62_why.specs.declared.why.Cause.TheVariants.{First, Held, Taken, Nothing}
 use Rattle.c62_grid.specs.Words.{right, unit_name}
 use Rattle.c62_grid.specs.Paths.{path_name}
@@ -29,11 +30,18 @@ resource_words (ReadsOf reg) = codes "reads of " ++ register_name reg
 unfoldable pub taken_words : Lack → List ℕ
 taken_words taken = resource_words taken.resource ++ codes " taken by " ++ decimal taken.by
 
+unfoldable pub more_words : Lack → List ℕ
+more_words taken = codes ", " ++ taken_words taken
+
+-- `.L1 taken by 17, 1X taken by 17`
+unfoldable pub shortage_words : Shortage → List ℕ
+shortage_words shortage = taken_words shortage.first ++ flat_map more_words shortage.more.items
+
 -- In cycle 0 there is no cycle earlier; and where nothing keeps an instruction from it, that is said.
 abbrev pub cause_words : Cause → List ℕ
 cause_words First = codes "-"
 cause_words (Held held) = held_words held
-cause_words (Taken taken) = taken_words taken
+cause_words (Taken shortage) = shortage_words shortage
 cause_words Nothing = codes "nothing"
 
 unfoldable pub why_columns : Why → List ℕ

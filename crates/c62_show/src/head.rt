@@ -178,7 +178,6 @@ fn path_ends(alloc: Global, path: &[u32]) -> Result<String, AllocError>
     push_number(&mut text, line_at(path, 0))?;
     text.push_str(" to ")?;
     push_number(&mut text, line_at(path, path.len().saturating_sub(1)))?;
-    text.push_str(", marked *")?;
     Ok(text)
 }
 

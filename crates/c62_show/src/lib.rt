@@ -14,5 +14,5 @@ pub use alone::{push_size_of, summary};
 pub use head::push_name;
 pub use limits::{Limits, Step, limits_of, limits_with};
 pub use registers::{lives_told, push_names, push_registers};
-pub use shown::{Shown, marked, picture, push_limits};
+pub use shown::{Shown, picture, push_limits};
 pub use whys::push_cause;

@@ -3,7 +3,7 @@
 ghost use Rattle.std.specs.Prelude.{◌≡◌, ◌<◌, length, OnOk, IfOk, option_map, string_bytes};
 ghost use Rattle.c62_show.specs.Limits.{least_of};
 ghost use Rattle.c62_listing.specs.Written.{AddsText};
-ghost use Rattle.c62_show.specs.Picture.{block_rows, block_text, gap, limit_lines, marked, picture, widths_of};
+ghost use Rattle.c62_show.specs.Picture.{block_rows, block_text, gap, limit_lines, picture, widths_of};
 ghost use Rattle.c62_grid.specs.Widths.{widths_with};
 
 use crate::head::{push_name, push_path, push_size, push_units};
@@ -22,6 +22,8 @@ pub struct Shown {
     /// How short its packets could be at best, where that is known.
     pub limits: Option<Limits>,
     pub packets: PacketBlock,
+    /// The lines that are marked: of the instructions without slack, where that is known.
+    pub critical: Vec<u32>,
     /// Why each of its instructions isn't issued a cycle earlier; empty where that isn't asked for.
     pub whys: Vec<Why>,
     /// Its registers, where they are asked for.
@@ -57,16 +59,6 @@ pub(crate) fn least_told(limits: &Option<Limits>) -> Option<u64>
     match limits {
         Some(limits) => Some(u64::from(limits.least())),
         None => None,
-    }
-}
-
-/// The lines of the critical path, where it is known.
-pub fn marked(limits: &Option<Limits>) -> &[u32]
-    ensures { result.now ≡ marked limits.now }
-{
-    match limits {
-        Some(limits) => &limits.path,
-        None => &[],
     }
 }
 
@@ -114,7 +106,7 @@ fn push_rows(
     let landings = landings_of(alloc, placed)?;
     let grid = Grid {
         widths,
-        path: marked(&shown.limits),
+        path: &shown.critical,
         cycles,
         placed,
         landings: &landings,

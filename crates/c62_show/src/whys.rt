@@ -3,11 +3,11 @@
 ghost use Rattle.std.specs.Prelude.{OnOk};
 ghost use Rattle.std.specs.List.{flat_map};
 ghost use Rattle.c62_listing.specs.Written.{AddsText};
-ghost use Rattle.c62_show.specs.Whys.{held_words, taken_words, cause_words, why_columns, why_row, whole_table, whys_table};
+ghost use Rattle.c62_show.specs.Whys.{held_words, taken_words, more_words, shortage_words, cause_words, why_columns, why_row, whole_table, whys_table};
 
 use crate::words::{push_reason, push_resource};
 use c62_grid::words::{push_number, push_right_number, push_signed};
-use c62_why::{Cause, Held, Taken, Why};
+use c62_why::{Cause, Held, Shortage, Taken, Why};
 use std::alloc::AllocError;
 
 /// How wide each of the columns of numbers is.
@@ -36,6 +36,33 @@ fn push_taken(out: &mut String, taken: &Taken) -> Result<(), AllocError>
     push_number(out, u64::from(taken.by))
 }
 
+/// What others have taken, behind something else of that kind.
+#[tactic(auto, unfolding(crate::specs::Whys::more_words))]
+fn push_another(out: &mut String, taken: &Taken) -> Result<(), AllocError>
+    ensures { OnOk result (AddsText out.old (more_words taken.now) out.new) }
+{
+    out.push_str(", ")?;
+    push_taken(out, taken)
+}
+
+fn push_more(out: &mut String, more: &[Taken]) -> Result<(), AllocError>
+    ensures { OnOk result (AddsText out.old (flat_map more_words more.now) out.new) }
+{
+    for taken in more {
+        push_another(out, taken)?;
+    }
+    Ok(())
+}
+
+/// All that others have taken.
+#[tactic(auto, unfolding(crate::specs::Whys::shortage_words))]
+fn push_shortage(out: &mut String, shortage: &Shortage) -> Result<(), AllocError>
+    ensures { OnOk result (AddsText out.old (shortage_words shortage.now) out.new) }
+{
+    push_taken(out, &shortage.first)?;
+    push_more(out, &shortage.more)
+}
+
 /// What keeps an instruction from the cycle before its own.
 ///
 /// # Errors
@@ -47,7 +74,7 @@ pub fn push_cause(out: &mut String, cause: &Cause) -> Result<(), AllocError>
     match cause {
         Cause::First => out.push_str("-"),
         Cause::Held(held) => push_held(out, held),
-        Cause::Taken(taken) => push_taken(out, taken),
+        Cause::Taken(shortage) => push_shortage(out, shortage),
         Cause::Nothing => out.push_str("nothing"),
     }
 }

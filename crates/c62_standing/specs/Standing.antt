@@ -1,5 +1,5 @@
 -- What is shown of packets as they stand (docs/SHOW.md, "Packets as they stand").
-use Rattle.std.specs.Prelude.{◌≡◌, ℕ, Bool, true, false, List, [], Option, Some, None}
+use Rattle.std.specs.Prelude.{◌≡◌, List, [], Option, Some, None}
 use Rattle.c62_read.specs.Block.{Serial}
 use Rattle.c62_packet.specs.declared.placed.Placed.{Placed}
 use Rattle.c62_packet.specs.Packed.{Packed, IsPacketBlock}
@@ -7,18 +7,12 @@ use Rattle.c62_depend.specs.Plan.{insns_of}
 use Rattle.c62_show.specs.declared.limits.Limits.{Limits}
 use Rattle.c62_show.specs.declared.shown.Shown.{Shown}
 use Rattle.c62_show.specs.Limits.{ArePlainLimits}
-use Rattle.c62_why.specs.declared.why.Why.{Why}
-use Rattle.c62_why.specs.Why.{AreWhys}
+use Rattle.c62_why.specs.Why.{TellsWhys, critical_from}
 use Rattle.c62_show.specs.Laws.{IsNoShorter}
 use Rattle.c62_check.specs.Schedule.{IsSchedule}
 use Rattle.c62_show.specs.Registers.{TellsLives}
 use Rattle.c62_standing.specs.declared.standing.Details.{Details}
 use Rattle.c62_unpack.specs.Unpacked.{IsUnpacked}
-
--- where it is asked for, why each instruction that is placed so isn't issued a cycle earlier
-abbrev pub TellsWhys : Bool → Serial → ℕ → List Placed → List Why → Type 0
-TellsWhys false block cycles placed whys = whys ≡ []
-TellsWhys true block cycles placed whys = AreWhys (insns_of block) cycles placed whys
 
 -- No packets that `check` calls the same as the block take fewer cycles than the bound that is told, nor than what is shown where
 -- the head says that no schedule is shorter.
@@ -31,12 +25,13 @@ pub record IsToldOf (details : Details) (packed : Packed) (shown : Shown) (limit
   pub placed : List Placed
   pub unpacked : IsUnpacked packed block placed
   pub known : ArePlainLimits block limits
-  pub whys : TellsWhys details.why block packed.cycles placed shown.whys.items
+  pub whys : TellsWhys details.why (insns_of block) packed.cycles placed shown.whys.items
+  pub critical : shown.critical.items ≡ critical_from (insns_of block) packed.cycles 0 placed
   pub bounded : NoneIsShorter block shown
 
 -- where no such block is known, nothing is told
 abbrev pub IsTold : Details → Packed → Shown → Option Limits → Type 0
-IsTold details packed shown None = shown.whys.items ≡ []
+IsTold details packed shown None = (shown.whys.items ≡ []) × (shown.critical.items ≡ [])
 IsTold details packed shown (Some limits) = IsToldOf details packed shown limits
 
 -- these packets, and what is told of them

@@ -1,15 +1,14 @@
 //! What is shown of packets as they stand.
 
-ghost use Rattle.std.specs.Prelude.{◌≡◌, ◌≤◌, length, IfOk};
+ghost use Rattle.std.specs.Prelude.{◌≡◌, IfOk};
 ghost use Rattle.std.specs.List.{AllZip};
-ghost use Rattle.c62_read.specs.declared.limits.TheConstants.{MOST_INSTRUCTIONS};
 ghost use Rattle.c62_unpack.specs.Unpacked.{IsUnpacked};
-ghost use Rattle.c62_standing.specs.Standing.{IsStanding, TellsWhys};
+ghost use Rattle.c62_standing.specs.Standing.{IsStanding};
 
 use c62_packet::{PacketBlock, Packets};
 use c62_show::{Shown, limits_of, lives_told};
 use c62_unpack::{Unpacked, copied, unpack};
-use c62_why::{Why, whys_of};
+use c62_why::{critical_lines, whys_told};
 use std::alloc::{AllocError, Global};
 
 /// What is told of packets beside their picture.
@@ -29,19 +28,6 @@ fn copy_of(alloc: Global, packets: &PacketBlock) -> Result<PacketBlock, AllocErr
     Ok(PacketBlock::of_lawful(copied(packets.label()), placed))
 }
 
-/// Why each instruction isn't issued a cycle earlier, where that is asked for.
-fn whys_told(alloc: Global, one: &Unpacked, cycles: u16, why: bool) -> Result<Vec<Why>, AllocError>
-    requires count { length one.now.placed.items ≡ length one.now.plan.insns }
-    requires few { length one.now.placed.items ≤ MOST_INSTRUCTIONS }
-    ensures { IfOk result (λ whys. TellsWhys why one.now.plan cycles one.now.placed.items whys.items) }
-{
-    if why {
-        whys_of(alloc, &one.plan, cycles, &one.placed)
-    } else {
-        Ok(Vec::new(alloc))
-    }
-}
-
 /// What is shown of packets of which the serial block is known.
 fn shown_of(
     alloc: Global,
@@ -53,11 +39,14 @@ fn shown_of(
     ensures { IfOk result (IsStanding details packets) }
 {
     let _all = one.plan.len();
-    let whys = whys_told(alloc, one, packets.length(), details.why)?;
+    let cycles = packets.length();
+    let whys = whys_told(alloc, &one.plan, cycles, &one.placed, details.why)?;
+    let critical = critical_lines(alloc, &one.plan, cycles, &one.placed)?;
     let limits = limits_of(alloc, &one.plan)?;
     let lives = lives_told(alloc, &packets, details.registers)?;
     Ok(Shown {
         limits: Some(limits),
+        critical,
         whys,
         lives,
         packets,
@@ -70,6 +59,7 @@ fn shown_alone(alloc: Global, packets: PacketBlock, details: Details) -> Result<
 {
     Ok(Shown {
         limits: None,
+        critical: Vec::new(alloc),
         whys: Vec::new(alloc),
         lives: lives_told(alloc, &packets, details.registers)?,
         packets,

@@ -1,5 +1,5 @@
 -- What the words of `lint` ask for, and which words ask for explanations (docs/FAULTS.md) or for a strict run.
-use Rattle.std.specs.Prelude.{ℕ, ◌+◌, ℤ, pos, int_le, nat_eq, nat_le, length, unsigned_abs, Bool, false, ◌&&◌, ◌||◌, List, [], ◌∷◌, Option, Some, None, option_map, option_and_then, codes, if◌then◌else◌}
+use Rattle.std.specs.Prelude.{ℕ, ◌+◌, ℤ, pos, int_le, nat_eq, nat_le, length, unsigned_abs, Bool, false, ◌&&◌, ◌||◌, List, [], ◌∷◌, ◌++◌, Option, Some, None, is_some, option_map, option_and_then, codes, if◌then◌else◌}
 use Rattle.std.specs.List.{flat_map, list_any, starts_with}
 use Rattle.std.specs.Str.{bytes_eq}
 use Rattle.c62_token.specs.Number.{number_of}
@@ -82,6 +82,36 @@ abbrev pub linting_of : List Text → Option Linting
 linting_of [] = None
 linting_of (command ∷ words) = linting_behind words
 
+-- the values that an option takes
+abbrev pub values_of : Text → Option Text
+values_of option =
+    if bytes_eq option (codes "--as") then Some (codes "'serial', 'listing' or 'packets'")
+    else (if bytes_eq option (codes "--most") then Some (codes "1 to 1000")
+    else None)
+
+-- the first option that asks for nothing, with its value, which is empty where none follows
+unfoldable pub first_bad : List Text → Option (Text × Text)
+first_bad [] = None
+first_bad (option ∷ []) = Some (option, [])
+first_bad (option ∷ value ∷ words) = if is_some (changed default option value) then first_bad words else Some (option, value)
+
+-- what is wrong with an option that takes these values, or none, and its value
+abbrev pub wrong : (option value : Text) → Option Text → List ℕ
+wrong option value None = codes "error: lint takes no '" ++ option ++ codes "'\n\n"
+wrong option value (Some values) = codes "error: '" ++ option ++ codes "' takes " ++ values ++ codes ", not '" ++ value ++ codes "'\n\n"
+
+abbrev pub is_help : Text → Bool
+is_help word = bytes_eq word (codes "--help") || bytes_eq word (codes "-h")
+
+abbrev pub blame_of : Option (Text × Text) → List ℕ
+blame_of None = codes "error: an option is given too often\n\n"
+blame_of (Some bad) = if is_help bad.0 then [] else wrong bad.0 bad.1 (values_of bad.0)
+
+-- what is wrong with words of `lint` that want nothing: no text where they ask for help
+abbrev pub lint_blame : List Text → List ℕ
+lint_blame [] = []
+lint_blame (command ∷ words) = blame_of (first_bad (other_words words))
+
 -- ---- `--explain`
 
 -- the commands that read a text
@@ -119,6 +149,17 @@ asks_strict words = list_any (λ word. bytes_eq word (codes "--strict")) words
 abbrev pub is_strict : List Text → Bool
 is_strict [] = false
 is_strict (command ∷ words) = makes_run command && asks_strict words
+
+-- ---- memory
+
+-- `--print`, `--dump` or `--base` stands for this setting
+abbrev pub is_of_memory : Text → Bool
+is_of_memory word =
+    starts_with nat_eq word (codes "print=") || starts_with nat_eq word (codes "dump=") || starts_with nat_eq word (codes "base=")
+
+-- such a word is among these
+abbrev pub names_memory : List Text → Bool
+names_memory words = list_any is_of_memory words
 
 -- ---- `--apart`
 

@@ -1,18 +1,23 @@
-//! What is told of texts of packets that are refused.
+//! What is told of texts of packets that are refused, and of packets that are checked.
 
+use crate::differing::blocks_told;
+use crate::differing_loops::loops_told;
+use crate::meant::Serial;
 use crate::other::push_packets_hint;
 use crate::teaching::Names;
 use c62_adopt::{AdoptFault, adopt, read_code};
 use c62_answer::parts_of;
-use c62_command::{Adopting, FlightStart, Form};
+use c62_check_loops::first_loopless;
+use c62_command::{Adopting, FlightStart, Form, Promises};
 use c62_explain::explain as explain_serial;
 use c62_explain_packets::{Finding, explain, of_adopt, of_listing, of_rows};
-use c62_line::Cause;
+use c62_line::{Cause, ReadFault};
 use c62_listing_reader::{ListFault, read_listing};
 use c62_op::InstructionSet;
+use c62_packet::Packets;
 use c62_reach::{ReachFault, reached_text};
 use c62_read::read_program;
-use c62_rows::{RowsFault, read_from};
+use c62_rows::{RowsFault, RowsText, read_from, read_rows};
 use std::alloc::{AllocError, Global};
 
 /// What explains a fault of packets, and which command wants the text.
@@ -156,23 +161,43 @@ pub(crate) fn form_taught(
     }
 }
 
-/// What explains the fault of the serial text of a check; nothing where it has none.
+/// What explains the fault of the serial text of a check.
 fn text_taught(
     isa: InstructionSet,
     alloc: Global,
     name: &[u8],
     text: &[u8],
-) -> Result<Option<Vec<u8>>, AllocError> {
-    match read_program(isa, alloc, text) {
-        Ok(_) => Ok(None),
-        Err(fault) => match fault.cause {
-            Cause::Memory => Err(AllocError),
-            _ => Ok(Some(explain_serial(isa, alloc, name, text, fault)?)),
+    fault: ReadFault,
+) -> Result<Vec<u8>, AllocError> {
+    match fault.cause {
+        Cause::Memory => Err(AllocError),
+        _ => explain_serial(isa, alloc, name, text, fault),
+    }
+}
+
+/// The packets that a text of this form says, if it says any.
+fn packets_in(
+    isa: InstructionSet,
+    alloc: Global,
+    form: Form,
+    text: &[u8],
+) -> Result<Option<Packets>, AllocError> {
+    match form {
+        Form::Listed => match read_listing(isa, alloc, text) {
+            Ok(packets) => Ok(Some(packets)),
+            Err(ListFault::Memory) => Err(AllocError),
+            Err(_) => Ok(None),
+        },
+        Form::Written => match adopt(isa, alloc, text, false) {
+            Ok(adopted) => Ok(Some(adopted.packets)),
+            Err(AdoptFault::Memory) => Err(AllocError),
+            Err(_) => Ok(None),
         },
     }
 }
 
-/// What explains the fault of what is to be checked: of its text, or else of its packets of this form.
+/// What explains the fault of what is to be checked: of its text, or else of its packets of this form. Where neither has one, what is told of
+/// the blocks that differ.
 pub(crate) fn check_taught(
     isa: InstructionSet,
     alloc: Global,
@@ -183,9 +208,38 @@ pub(crate) fn check_taught(
     let Some(parts) = parts_of(input) else {
         return Ok(Vec::new(alloc));
     };
-    match text_taught(isa, alloc, names.text.as_bytes(), parts.text)? {
-        Some(more) => Ok(more),
+    let name = names.text.as_bytes();
+    let text = parts.text;
+    let program = match read_program(isa, alloc, text) {
+        Ok(program) => program,
+        Err(fault) => return text_taught(isa, alloc, name, text, fault),
+    };
+    let serial = Serial {
+        name,
+        text,
+        program: &program,
+    };
+    match packets_in(isa, alloc, form, parts.listing)? {
+        Some(packets) => blocks_told(isa, alloc, serial, &packets),
         None => form_taught(isa, alloc, form, names.listing.as_bytes(), parts.listing),
+    }
+}
+
+/// The rows that a text of packets says, if it says any.
+fn rows_in(
+    isa: InstructionSet,
+    alloc: Global,
+    text: &[u8],
+) -> Result<Option<RowsText>, AllocError> {
+    let code = match read_code(isa, alloc, text) {
+        Ok(code) => code,
+        Err(AdoptFault::Memory) => return Err(AllocError),
+        Err(_) => return Ok(None),
+    };
+    match read_rows(isa, alloc, &code) {
+        Ok(read) => Ok(Some(read)),
+        Err(RowsFault::Memory) => Err(AllocError),
+        Err(_) => Ok(None),
     }
 }
 
@@ -195,12 +249,27 @@ pub(crate) fn loops_taught(
     alloc: Global,
     names: Names<'_>,
     input: &[u8],
+    promises: &Promises,
 ) -> Result<Vec<u8>, AllocError> {
     let Some(parts) = parts_of(input) else {
         return Ok(Vec::new(alloc));
     };
-    match text_taught(isa, alloc, names.text.as_bytes(), parts.text)? {
-        Some(more) => Ok(more),
-        None => exec_taught(isa, alloc, names.listing.as_bytes(), parts.listing, None),
+    let name = names.text.as_bytes();
+    let text = parts.text;
+    let program = match read_program(isa, alloc, text) {
+        Ok(program) => program,
+        Err(fault) => return text_taught(isa, alloc, name, text, fault),
+    };
+    let Some(read) = rows_in(isa, alloc, parts.listing)? else {
+        return exec_taught(isa, alloc, names.listing.as_bytes(), parts.listing, None);
+    };
+    if first_loopless(program.blocks(), &promises.trips).is_some() {
+        return Ok(Vec::new(alloc));
     }
+    let serial = Serial {
+        name,
+        text,
+        program: &program,
+    };
+    loops_told(isa, alloc, serial, &read, promises)
 }

@@ -1,4 +1,4 @@
-//! What is told behind the line that refuses a text.
+//! What is told behind the line that refuses a text, and of packets that aren't the same.
 
 ghost use Rattle.std.specs.Prelude.{◌≢◌, IfOk};
 ghost use Rattle.c62_command.specs.CommandLine.{ask_of};
@@ -46,7 +46,8 @@ fn serial_taught(
 }
 
 /// What is told behind the line that refuses a text, where that is asked to be explained: where the fault is found, the line with carets
-/// under it, what is wrong, and what helps (docs/FAULTS.md). Nothing where the text isn't refused.
+/// under it, what is wrong, and what helps (docs/FAULTS.md). Of what is checked and isn't refused it is what is told of a difference, if there
+/// is one (docs/CHECK.md, "What `--explain` adds"), and else nothing.
 ///
 /// # Errors
 ///
@@ -74,6 +75,6 @@ pub fn taught(
         Request::Adopt(adopting) => adopting_taught(isa, alloc, name, text, adopting),
         Request::ShowPackets(_) => form_taught(isa, alloc, Form::Written, name, text),
         Request::Check(form) => check_taught(isa, alloc, *form, names, text),
-        Request::CheckLoops(_) => loops_taught(isa, alloc, names, text),
+        Request::CheckLoops(promises) => loops_taught(isa, alloc, names, text, promises),
     }
 }

@@ -3,7 +3,7 @@
 ghost use Rattle.std.specs.Prelude.{◌≡◌, ◌≤◌, IfOk, IfSome, OnOk, ◌++◌, codes, map, option_map, string_bytes};
 ghost use Rattle.std.specs.List.{list_any};
 ghost use Rattle.std.specs.Str.{bytes_eq};
-ghost use Rattle.c62_teach.specs.Words.{as_json, asks_apart, asks_strict, is_json, other_word, other_words, behind_first, changed, explains, is_answered, is_explained, is_lint, kind_of, linting_behind, linting_by, linting_of, most_by, most_of, is_strict, is_watched, names_apart, plain_word, plain_words, makes_run};
+ghost use Rattle.c62_teach.specs.Words.{as_json, asks_apart, asks_strict, is_json, other_word, other_words, behind_first, blame_of, changed, explains, first_bad, is_answered, is_explained, is_help, is_lint, is_of_memory, kind_of, lint_blame, linting_behind, linting_by, linting_of, most_by, most_of, is_strict, is_watched, names_apart, names_memory, plain_word, plain_words, makes_run, values_of, wrong};
 
 use c62_token::number::number;
 use std::alloc::{AllocError, Global};
@@ -198,6 +198,107 @@ pub fn linting_of(alloc: Global, words: &[String]) -> Result<Option<Linting>, Al
     }
 }
 
+/// The values that an option of `lint` takes.
+fn values_of(option: &str) -> Option<&'static str>
+    ensures { option_map (λ values. values.now) result ≡ values_of option.now }
+{
+    if option == "--as" {
+        Some("'serial', 'listing' or 'packets'")
+    } else if option == "--most" {
+        Some("1 to 1000")
+    } else {
+        None
+    }
+}
+
+/// The first option that asks for nothing, and its value, which is empty where none follows.
+fn first_bad<'a>(words: &[&'a str]) -> Option<(&'a str, &'a str)>
+    ensures { option_map (λ bad. (bad.0.now, bad.1.now)) result ≡ first_bad (map (λ word. word.now) words.now) }
+{
+    let mut rest = words;
+    loop {
+        match rest {
+            [] => return None,
+            [option] => return Some((*option, "")),
+            [option, value, behind @ ..] => {
+                if changed(DEFAULT, option, value).is_none() {
+                    return Some((*option, *value));
+                }
+                rest = behind;
+            }
+        }
+    }
+}
+
+/// Adds what is wrong with an option of `lint` and its value.
+fn push_wrong(out: &mut Vec<u8>, option: &str, value: &str) -> Result<(), AllocError>
+    ensures { OnOk result (out.new.items ≡ out.old.items ++ wrong option.now value.now (values_of option.now)) }
+{
+    match values_of(option) {
+        None => {
+            out.extend_from_slice(b"error: lint takes no '")?;
+            out.extend_from_slice(option.as_bytes())?;
+            out.extend_from_slice(b"'\n\n")
+        }
+        Some(values) => {
+            out.extend_from_slice(b"error: '")?;
+            out.extend_from_slice(option.as_bytes())?;
+            out.extend_from_slice(b"' takes ")?;
+            out.extend_from_slice(values.as_bytes())?;
+            out.extend_from_slice(b", not '")?;
+            out.extend_from_slice(value.as_bytes())?;
+            out.extend_from_slice(b"'\n\n")
+        }
+    }
+}
+
+/// Whether a word asks for help.
+fn is_help(word: &str) -> bool
+    ensures { result ≡ is_help word.now }
+{
+    word == "--help" || word == "-h"
+}
+
+/// Adds what is wrong with words of `lint` of which this option and value are the first that ask for nothing.
+fn push_blame(out: &mut Vec<u8>, bad: Option<(&str, &str)>) -> Result<(), AllocError>
+    ensures { OnOk result (out.new.items ≡ out.old.items ++ blame_of (option_map (λ bad. (bad.0.now, bad.1.now)) bad)) }
+{
+    match bad {
+        None => out.extend_from_slice(b"error: an option is given too often\n\n"),
+        Some((option, value)) => {
+            if is_help(option) {
+                Ok(())
+            } else {
+                push_wrong(out, option, value)
+            }
+        }
+    }
+}
+
+/// What is wrong with the words behind `lint`, which want nothing.
+fn blame_behind(alloc: Global, words: &[String]) -> Result<Vec<u8>, AllocError>
+    ensures { IfOk result (λ blame. blame.items ≡ blame_of (first_bad (other_words (map string_bytes words.now)))) }
+{
+    let others = other_words(alloc, words)?;
+    let mut blame = Vec::new(alloc);
+    push_blame(&mut blame, first_bad(&others))?;
+    Ok(blame)
+}
+
+/// What is wrong with the words that begin with `lint`, where [`linting_of`] finds that they want nothing. No text where they ask for help.
+///
+/// # Errors
+///
+/// `AllocError` where memory ran out.
+pub fn lint_blame(alloc: Global, words: &[String]) -> Result<Vec<u8>, AllocError>
+    ensures { IfOk result (λ blame. blame.items ≡ lint_blame (map string_bytes words.now)) }
+{
+    match words {
+        [] => Ok(Vec::new(alloc)),
+        [_, options @ ..] => blame_behind(alloc, options),
+    }
+}
+
 /// Whether a text is read for this command, and what is told of a fault can be explained.
 fn is_answered(command: &str) -> bool
     ensures { result ≡ is_answered command.now }
@@ -263,6 +364,28 @@ pub fn is_strict(words: &[String]) -> bool
         [] => false,
         [command, rest @ ..] => makes_run(command.as_str()) && asks_strict(rest),
     }
+}
+
+/// Whether a word is a setting for which `--print`, `--dump` or `--base` stands.
+pub fn is_of_memory(word: &str) -> bool
+    ensures { result ≡ is_of_memory word.now }
+{
+    let bytes = word.as_bytes();
+    bytes.starts_with(b"print=") || bytes.starts_with(b"dump=") || bytes.starts_with(b"base=")
+}
+
+/// Whether such a word is among these.
+fn has_memory(words: &[String]) -> bool
+    ensures { result ≡ list_any (λ word. is_of_memory (string_bytes word)) words.now }
+{
+    words.iter().any(|word| is_of_memory(word.as_str()))
+}
+
+/// Whether one of the words is a setting for which `--print`, `--dump` or `--base` stands.
+pub fn names_memory(words: &[String]) -> bool
+    ensures { result ≡ names_memory (map string_bytes words.now) }
+{
+    has_memory(words)
 }
 
 /// Whether a word names registers as apart.

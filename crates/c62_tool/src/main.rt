@@ -24,7 +24,7 @@ fn main(rt: HostRuntime) -> ExitCode {
             return ExitCode::from(2);
         }
     };
-    let (_, status) = run_program(
+    let ended = run_program(
         &rt,
         &mut Disk::new(&rt),
         words.as_slice(),
@@ -32,5 +32,5 @@ fn main(rt: HostRuntime) -> ExitCode {
         &mut rt.stdout(),
         rt.stderr(),
     );
-    ExitCode::from(status)
+    ExitCode::from(ended.status)
 }

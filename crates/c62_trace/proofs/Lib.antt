@@ -1,4 +1,5 @@
 pub mod Telling
 pub mod Shown
 pub mod Events
+pub mod Once
 pub mod Told

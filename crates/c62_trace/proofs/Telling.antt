@@ -1,11 +1,12 @@
 -- What a stream got, piece by piece.
-use Rattle.std.proofs.Common.{◌≡◌, ℕ, zero, suc, ◌+◌, ◌-◌, ◌≤◌, Bool, true, false, List, [], ◌∷◌, ◌++◌, length, take}
-use Rattle.std.proofs.Common.{drop, Option, Some, None, refl, sym, ap, subst, ◌∙◌, arith, append-nil, append_assoc}
+use Rattle.std.proofs.Common.{◌≡◌, ℕ, zero, suc, ◌+◌, ◌-◌, ◌≤◌, List, [], ◌∷◌, ◌++◌, length, take}
+use Rattle.std.proofs.Common.{drop, Option, Some, None, Ok, Err, refl, sym, ap, subst, ◌∙◌, arith, append-nil, append_assoc}
 use Rattle.std.specs.Io.KnownBytes.{Appends, Keeps}
 use Rattle.std.proofs.KnownBytes.{Appends-kept, Appends-trans}
 use Rattle.std.proofs.Math.Seq.{take-add}
 use Rattle.std.proofs.lemmas.List.{take_all, take_rest}
-use Rattle.c62_trace.specs.Stream.{IsTold, TellsMore}
+use Rattle.c62_trace.specs.declared.offering.Refused.{Refused}
+use Rattle.c62_trace.specs.Stream.{Sent, IsTold, TellsMore}
 
 -- ---- one text
 
@@ -33,10 +34,10 @@ pub front_whole : (old new : Option (List ℕ)) (text : List ℕ) (told : ℕ) �
     → Appends old new text
 front_whole old new text told all so_far = subst (Appends old new) (take_all told text all) so_far.front
 
--- nothing more was taken
-pub front_kept : (old mid new : Option (List ℕ)) (text : List ℕ) (told : ℕ) → Front old mid text told → Keeps mid new
-    → IsTold false old new text
-front_kept old mid new text told so_far kept = (told, Appends-kept old mid new (take told text) so_far.front kept)
+-- the next was refused
+pub front_kept : (refused : Refused) (old mid new : Option (List ℕ)) (text : List ℕ) (told : ℕ)
+    → Front old mid text told → Keeps mid new → IsTold (Err refused) old new text
+front_kept refused old mid new text told so_far kept = (told, Appends-kept old mid new (take told text) so_far.front kept)
 
 -- ---- several texts
 
@@ -57,26 +58,27 @@ take_within (b ∷ text) more zero = refl
 take_within (b ∷ text) more (suc count) = ap (λ (rest : List ℕ). b ∷ rest) (take_within text more count)
 
 -- what follows on a text that was told whole
-pub told_more : (after : Bool) (middle new : Option (List ℕ)) (more : List ℕ) → IsTold after middle new more
-    → TellsMore true after middle new more
-told_more true middle new more told old text before = Appends-trans old middle new text more before told
-told_more false middle new more told old text before = (
+pub told_more : (done : Unit {0}) (after : Sent) (middle new : Option (List ℕ)) (more : List ℕ)
+    → IsTold after middle new more → TellsMore (Ok done) after middle new more
+told_more done (Ok all) middle new more told old text before = Appends-trans old middle new text more before told
+told_more done (Err refused) middle new more told old text before = (
   length text + told.0,
   subst (Appends old new) (sym (take_behind text more told.0))
       (Appends-trans old middle new text (take told.0 more) before told.1),
 )
 
 -- a front of a text is one of it with more behind it
-pub told_no_more : (middle : Option (List ℕ)) (more : List ℕ) → TellsMore false false middle middle more
-told_no_more middle more old text before =
+pub told_no_more : (refused : Refused) (middle : Option (List ℕ)) (more : List ℕ)
+    → TellsMore (Err refused) (Err refused) middle middle more
+told_no_more refused middle more old text before =
     (length (take before.0 text), subst (Appends old middle) (sym (take_within text more before.0)) before.1)
 
 -- one text behind another, and nothing
-pub tells_on : (before mid after : Bool) (old middle new : Option (List ℕ)) (text more : List ℕ)
+pub tells_on : (before mid after : Sent) (old middle new : Option (List ℕ)) (text more : List ℕ)
     → TellsMore before mid old middle text → TellsMore mid after middle new more
     → TellsMore before after old new (text ++ more)
 tells_on before mid after old middle new text more first second held told is =
     subst (IsTold after held new) (append_assoc told text more) (second held (told ++ text) (first held told is))
 
-pub tells_none : (whole : Bool) (old : Option (List ℕ)) → TellsMore whole whole old old []
+pub tells_none : (whole : Sent) (old : Option (List ℕ)) → TellsMore whole whole old old []
 tells_none whole old held told is = subst (IsTold whole held old) (sym (append-nil told)) is

@@ -1,4 +1,4 @@
--- Each landing and each store is told, and nothing else.
+-- Each landing and each store is told, and nothing else, and each issue.
 use Rattle.std.proofs.Common.{◌≡◌, ◌∙◌, ℕ, ◌+◌, ◌-◌, arith, Bool, true, false, cond, eqb, List, [], ◌∷◌}
 use Rattle.std.proofs.Common.{map, Option, Some, None, refl, sym, ap, subst, inl, inr}
 use Rattle.std.specs.Prelude.{Contains, filter}
@@ -17,7 +17,8 @@ use Rattle.c62_pipe.specs.declared.slot.Due.{Due}
 use Rattle.c62_pipe.specs.Flight.{made_by}
 use Rattle.c62_trace.specs.Event.{Event, Stored, Landed, issue_of, stored_at, stored_by, events_of}
 use Rattle.c62_trace.specs.Event.{landings_of, landings, issued_in, events_in}
-use Rattle.c62_trace.specs.Laws.{LandsIn, StoresIn, AreTold}
+use Rattle.c62_trace.specs.Laws.{LandsIn, StoresIn, AreTold, issue_in}
+use Rattle.c62_trace.proofs.Once.{issued_once, stored_once, landed_once}
 
 -- ---- writes that land
 
@@ -253,8 +254,9 @@ are_told placed opening did cycle = record {
     stores_in placed opening did cycle line place size value,
     in_stores placed opening did cycle line place size value,
   );
-  issues = λ p inside now. in_issued placed opening did cycle p
-      (issue_of (word_before placed opening did cycle) p (runs (word_before placed opening did cycle) p.insn)
-      (did p).access)
-      inside now (inl refl);
+  issues = λ p inside now. in_issued placed opening did cycle p (issue_in placed opening did cycle p) inside now
+      (inl refl);
+  issued_once = issued_once placed opening did cycle;
+  stored_once = stored_once placed opening did cycle;
+  landed_once = landed_once placed opening did cycle;
 }

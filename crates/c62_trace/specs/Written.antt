@@ -1,17 +1,17 @@
 -- What was written to a stream or waits for it, piece by piece.
-use Rattle.std.proofs.Common.{◌≡◌, ◌∙◌, ℕ, Bool, List, [], ◌++◌, Option, refl, sym, ap, subst, append-nil, append_assoc}
+use Rattle.std.proofs.Common.{◌≡◌, ◌∙◌, ℕ, List, [], ◌++◌, Option, refl, sym, ap, subst, append-nil, append_assoc}
 use Rattle.std.proofs.lemmas.Grind.{flat_map-append}
 use Rattle.c62_trace.specs.declared.view.View.{View}
 use Rattle.c62_trace.specs.Event.{Entry}
 use Rattle.c62_trace.specs.Line.{entry_lines, trace_lines}
-use Rattle.c62_trace.specs.Stream.{IsTold, TellsMore, IsWritten, WritesMore}
+use Rattle.c62_trace.specs.Stream.{Sent, IsTold, TellsMore, IsWritten, WritesMore}
 
-pub writes_none : (whole : Bool) (stream : Option (List ℕ)) (unsent : List ℕ)
+pub writes_none : (whole : Sent) (stream : Option (List ℕ)) (unsent : List ℕ)
     → WritesMore whole stream unsent whole stream unsent []
 writes_none whole stream unsent opening text is =
     subst (IsWritten opening whole stream unsent) (sym (append-nil text)) is
 
-pub writes_on : (whole whole' whole'' : Bool) (stream stream' stream'' : Option (List ℕ))
+pub writes_on : (whole whole' whole'' : Sent) (stream stream' stream'' : Option (List ℕ))
     (unsent unsent' unsent'' text more : List ℕ)
     → WritesMore whole stream unsent whole' stream' unsent' text
     → WritesMore whole' stream' unsent' whole'' stream'' unsent'' more
@@ -22,7 +22,7 @@ writes_on whole whole' whole'' stream stream' stream'' unsent unsent' unsent'' t
     (second opening (front ++ text) (first opening front is))
 
 -- more of it waits
-pub writes_pushed : (whole : Bool) (stream : Option (List ℕ)) (unsent unsent' more : List ℕ) → unsent' ≡ unsent ++ more
+pub writes_pushed : (whole : Sent) (stream : Option (List ℕ)) (unsent unsent' more : List ℕ) → unsent' ≡ unsent ++ more
     → WritesMore whole stream unsent whole stream unsent' more
 writes_pushed whole stream unsent unsent' more e opening text is = (
   is.0,
@@ -31,7 +31,7 @@ writes_pushed whole stream unsent unsent' more e opening text is = (
 )
 
 -- what waits is sent
-pub writes_sent : (whole whole' : Bool) (stream stream' : Option (List ℕ)) (unsent unsent' : List ℕ)
+pub writes_sent : (whole whole' : Sent) (stream stream' : Option (List ℕ)) (unsent unsent' : List ℕ)
     → TellsMore whole whole' stream stream' unsent → unsent' ≡ []
     → WritesMore whole stream unsent whole' stream' unsent' []
 writes_sent whole whole' stream stream' unsent unsent' told none opening text is = (
@@ -41,7 +41,7 @@ writes_sent whole whole' stream stream' unsent unsent' told none opening text is
 )
 
 -- of which some more is sent
-pub writes_kept : (whole whole' whole'' : Bool) (stream stream' stream'' : Option (List ℕ))
+pub writes_kept : (whole whole' whole'' : Sent) (stream stream' stream'' : Option (List ℕ))
     (unsent unsent' unsent'' text : List ℕ)
     → WritesMore whole stream unsent whole' stream' unsent' text
     → WritesMore whole' stream' unsent' whole'' stream'' unsent'' []
@@ -51,7 +51,7 @@ writes_kept whole whole' whole'' stream stream' stream'' unsent unsent' unsent''
     (writes_on whole whole' whole'' stream stream' stream'' unsent unsent' unsent'' text [] first second)
 
 -- all of it was sent
-pub written_told : (opening : Option (List ℕ)) (whole whole' : Bool) (stream stream' : Option (List ℕ))
+pub written_told : (opening : Option (List ℕ)) (whole whole' : Sent) (stream stream' : Option (List ℕ))
     (unsent unsent' text : List ℕ) → IsWritten opening whole stream unsent text
     → WritesMore whole stream unsent whole' stream' unsent' [] → unsent' ≡ [] → IsTold whole' opening stream' text
 written_told opening whole whole' stream stream' unsent unsent' text is more none =
@@ -60,7 +60,7 @@ written_told opening whole whole' stream stream' unsent unsent' text is more non
     (sym (append-nil now.0) ∙ ap (λ bytes. now.0 ++ bytes) (sym none) ∙ now.1 ∙ append-nil text) now.2
 
 -- the lines of some events, and of others behind them
-pub told_on : (view view' view'' : View) (whole whole' whole'' : Bool) (stream stream' stream'' : Option (List ℕ))
+pub told_on : (view view' view'' : View) (whole whole' whole'' : Sent) (stream stream' stream'' : Option (List ℕ))
     (unsent unsent' unsent'' : List ℕ) (told others : List Entry)
     → (view' ≡ view) × WritesMore whole stream unsent whole' stream' unsent' (trace_lines view told)
     → (view'' ≡ view') × WritesMore whole' stream' unsent' whole'' stream'' unsent'' (trace_lines view' others)

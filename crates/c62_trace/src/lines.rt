@@ -1,11 +1,12 @@
 //! A trace that is written as a run goes.
 
-ghost use Rattle.std.specs.Prelude.{◌≡◌, ℕ, [], List, Option, refl};
+ghost use Rattle.std.specs.Prelude.{◌≡◌, ℕ, [], IsOk, List, Option, refl};
 ghost use Rattle.c62_trace.specs.Line.{trace_lines};
 ghost use Rattle.c62_trace.specs.Stream.{IsTold, IsWritten, WritesMore};
 ghost use Rattle.c62_trace.specs.Written.{writes_none, told_on};
 
 use crate::line::{push_insn, push_landings};
+use crate::offering::Refused;
 use crate::stream::tell;
 use crate::view::View;
 use crate::watch::Watch;
@@ -24,8 +25,8 @@ pub struct Lines<W> {
     room: usize,
     /// What isn't sent yet.
     pub unsent: Vec<u8>,
-    /// Whether the stream took all that was sent.
-    pub whole: bool,
+    /// Whether the stream took all that was sent, or refused some.
+    pub whole: Result<(), Refused>,
     pub stream: W,
 }
 
@@ -55,6 +56,7 @@ impl<W: Write> Lines<W> {
     /// Nothing is written yet. So many bytes are kept before they are sent; with 0 the lines of each cycle are sent when it ends.
     pub fn new(alloc: Global, view: View, room: usize, stream: W) -> Lines<W>
         ensures view { result.view ≡ view }
+        ensures whole { IsOk result.whole }
         ensures written { IsWritten (W.contents stream) result.whole (W.contents result.stream) result.unsent.items [] }
     {
         Lines {
@@ -62,13 +64,13 @@ impl<W: Write> Lines<W> {
             view,
             room,
             unsent: Vec::new(alloc),
-            whole: true,
+            whole: Ok(()),
             stream,
         }
     }
 
-    /// Sends what isn't sent yet. Gives back the stream, and whether it took all; if it didn't, it has a front of what was written.
-    pub fn end(self) -> (W, bool)
+    /// Sends what isn't sent yet. Gives back the stream, and whether it took all; if it refused some, it has a front of what was written.
+    pub fn end(self) -> (W, Result<(), Refused>)
         ensures { (opening : Option (List ℕ)) (text : List ℕ) → IsWritten opening self.whole (W.contents self.stream) self.unsent.items text
             → IsTold result.1 opening (W.contents result.0) text }
     {

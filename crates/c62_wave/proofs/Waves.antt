@@ -1,10 +1,10 @@
 -- Cycles one by one, and the events of one cycle.
-use Rattle.std.proofs.Common.{◌≡◌, ◌∙◌, ℕ, zero, suc, ◌+◌, ◌-◌, ◌<◌, ◌≤◌, Bool, List, [], ◌∷◌, ◌++◌, Option, fold}
+use Rattle.std.proofs.Common.{◌≡◌, ◌∙◌, ℕ, zero, suc, ◌+◌, ◌-◌, ◌<◌, ◌≤◌, List, [], ◌∷◌, ◌++◌, Option, fold}
 use Rattle.std.proofs.Common.{map, length, refl, sym, ap, subst, arith, append-nil, append_assoc}
 use Rattle.c62_pipe.specs.declared.slot.Due.{Due}
 use Rattle.c62_trace.specs.declared.view.Window.{Window}
 use Rattle.c62_trace.specs.Event.{Event, Entry, Landed, entries}
-use Rattle.c62_trace.specs.Stream.{IsTold, IsWritten, WritesMore}
+use Rattle.c62_trace.specs.Stream.{Sent, IsTold, IsWritten, WritesMore}
 use Rattle.c62_trace.specs.Written.{writes_on, writes_pushed, written_told}
 use Rattle.c62_wave.specs.Head.{head}
 use Rattle.c62_wave.specs.declared.course.Course.{Course}
@@ -98,7 +98,7 @@ text_entries window cycle event events course =
 -- ---- what a stream gets
 
 -- a text waits, and then some of it is sent
-pub pushed_on : (whole whole' : Bool) (stream stream' : Option (List ℕ)) (unsent unsent' unsent'' text : List ℕ)
+pub pushed_on : (whole whole' : Sent) (stream stream' : Option (List ℕ)) (unsent unsent' unsent'' text : List ℕ)
     → unsent' ≡ unsent ++ text → WritesMore whole stream unsent' whole' stream' unsent'' []
     → WritesMore whole stream unsent whole' stream' unsent'' text
 pushed_on whole whole' stream stream' unsent unsent' unsent'' text pushed sent =
@@ -108,7 +108,7 @@ pushed_on whole whole' stream stream' unsent unsent' unsent'' text pushed sent =
 
 -- events of a cycle are told
 pub cycle_told : (cycle : ℕ) (event : Event) (events : List Event) (window window' : Window)
-    (course mid course' : Course) (whole whole' : Bool) (stream stream' : Option (List ℕ)) (unsent unsent' : List ℕ)
+    (course mid course' : Course) (whole whole' : Sent) (stream stream' : Option (List ℕ)) (unsent unsent' : List ℕ)
     → window' ≡ window → mid ≡ course_at cycle course → course' ≡ fold with_told mid (event ∷ events)
     → WritesMore whole stream unsent whole' stream' unsent' (text_before window cycle course)
     → TellsWave (entries cycle (event ∷ events)) window course whole stream unsent
@@ -124,7 +124,7 @@ cycle_told cycle event events window window' course mid course' whole whole' str
     }
 
 -- the dump ends
-pub ends : (opening : Option (List ℕ)) (whole whole' whole'' : Bool) (stream stream' stream'' : Option (List ℕ))
+pub ends : (opening : Option (List ℕ)) (whole whole' whole'' : Sent) (stream stream' stream'' : Option (List ℕ))
     (unsent unsent' unsent'' unsent''' text more mark : List ℕ)
     → IsWritten opening whole stream unsent text → WritesMore whole stream unsent whole' stream' unsent' more
     → unsent'' ≡ unsent' ++ mark → WritesMore whole' stream' unsent'' whole'' stream'' unsent''' [] → unsent''' ≡ []
@@ -137,7 +137,7 @@ ends opening whole whole' whole'' stream stream' stream'' unsent unsent' unsent'
 
 -- writes that land are told, or none
 pub landings_told : (cycle : ℕ) (writes : List Due) (window window' : Window) (course mid course' : Course)
-    (whole whole' : Bool) (stream stream' : Option (List ℕ)) (unsent unsent' : List ℕ)
+    (whole whole' : Sent) (stream stream' : Option (List ℕ)) (unsent unsent' : List ℕ)
     → 0 < length writes → window' ≡ window → mid ≡ course_at cycle course
     → course' ≡ fold with_told mid (map Landed writes)
     → WritesMore whole stream unsent whole' stream' unsent' (text_before window cycle course)
@@ -151,7 +151,7 @@ landings_told cycle (write ∷ more) window window' course mid course' whole who
     cycle_told cycle (Landed write) (map Landed more) window window' course mid course' whole whole'
     stream stream' unsent unsent' same comes told writes
 
-pub none_told : (cycle : ℕ) (writes : List Due) (window : Window) (course : Course) (whole : Bool)
+pub none_told : (cycle : ℕ) (writes : List Due) (window : Window) (course : Course) (whole : Sent)
     (stream : Option (List ℕ)) (unsent : List ℕ) → length writes ≡ 0
     → TellsWave (entries cycle (map Landed writes)) window course whole stream unsent window course whole stream unsent
 none_told cycle [] window course whole stream unsent none = wave_nothing window course whole stream unsent
@@ -161,7 +161,7 @@ none_told cycle (write ∷ writes) window course whole stream unsent none = absu
 
 -- what the stream has of a run that was watched from its beginning to its end
 pub wave_whole : (opening : Option (List ℕ)) (window : Window) (base : ℕ) (registers : List ℕ) (log : List Entry)
-    (cycles : ℕ) (window' window'' : Window) (course' course'' : Course) (whole whole' whole'' : Bool)
+    (cycles : ℕ) (window' window'' : Window) (course' course'' : Course) (whole whole' whole'' : Sent)
     (stream stream' stream'' : Option (List ℕ)) (unsent unsent' : List ℕ)
     → BeginsWave opening window base registers window' course' whole stream unsent
     → TellsWave log window' course' whole stream unsent window'' course'' whole' stream' unsent'

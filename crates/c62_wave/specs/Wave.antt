@@ -1,8 +1,8 @@
 -- The waveform of a run, event by event (docs/WAVE.md).
-use Rattle.std.specs.Prelude.{◌≡◌, ℕ, zero, suc, ◌+◌, ◌-◌, Bool, List, [], ◌∷◌, ◌++◌, Option}
+use Rattle.std.specs.Prelude.{◌≡◌, ℕ, zero, suc, ◌+◌, ◌-◌, IsOk, List, [], ◌∷◌, ◌++◌, Option}
 use Rattle.c62_trace.specs.declared.view.Window.{Window}
 use Rattle.c62_trace.specs.Event.{Event, Entry}
-use Rattle.c62_trace.specs.Stream.{IsWritten, WritesMore}
+use Rattle.c62_trace.specs.Stream.{Sent, IsWritten, WritesMore}
 use Rattle.c62_wave.specs.declared.course.Course.{Course}
 use Rattle.c62_wave.specs.Signals.{opening_signals, with_event, next_cycle}
 use Rattle.c62_wave.specs.Head.{head}
@@ -61,16 +61,17 @@ wave_of window base registers log cycles =
 
 -- ---- of a stream
 
--- nothing of a run was told yet, and the stream has, or waits for, the head of its dump
+-- nothing of a run was told yet, and the stream, which refused nothing, has the head of its dump, or waits for it
 pub record BeginsWave (opening : Option (List ℕ)) (window : Window) (base : ℕ) (registers : List ℕ)
-    (window' : Window) (course' : Course) (whole' : Bool) (stream' : Option (List ℕ)) (unsent' : List ℕ) : Type 0 where
+    (window' : Window) (course' : Course) (whole' : Sent) (stream' : Option (List ℕ)) (unsent' : List ℕ) : Type 0 where
   pub same_window : window' ≡ window
   pub at_opening : course' ≡ opening_course base registers
+  pub begins_whole : IsOk whole'
   pub has_head : IsWritten opening whole' stream' unsent' head
 
 -- this log was told, and its text was written
-pub record TellsWave (log : List Entry) (window : Window) (course : Course) (whole : Bool) (stream : Option (List ℕ)) (unsent : List ℕ)
-    (window' : Window) (course' : Course) (whole' : Bool) (stream' : Option (List ℕ)) (unsent' : List ℕ) : Type 0 where
+pub record TellsWave (log : List Entry) (window : Window) (course : Course) (whole : Sent) (stream : Option (List ℕ)) (unsent : List ℕ)
+    (window' : Window) (course' : Course) (whole' : Sent) (stream' : Option (List ℕ)) (unsent' : List ℕ) : Type 0 where
   pub same_window : window' ≡ window
   pub follows : course' ≡ course_after log course
   pub writes : WritesMore whole stream unsent whole' stream' unsent' (log_text window log course)

@@ -1,8 +1,8 @@
 -- That a log is told piece by piece.
-use Rattle.std.proofs.Common.{◌≡◌, ◌∙◌, ℕ, Bool, List, [], ◌∷◌, ◌++◌, Option, refl, sym, ap, subst, append_assoc}
+use Rattle.std.proofs.Common.{◌≡◌, ◌∙◌, ℕ, List, [], ◌∷◌, ◌++◌, Option, refl, sym, ap, subst, append_assoc}
 use Rattle.c62_trace.specs.declared.view.Window.{Window}
 use Rattle.c62_trace.specs.Event.{Entry}
-use Rattle.c62_trace.specs.Stream.{WritesMore}
+use Rattle.c62_trace.specs.Stream.{Sent, WritesMore}
 use Rattle.c62_trace.specs.Written.{writes_none, writes_on}
 use Rattle.c62_wave.specs.declared.course.Course.{Course}
 use Rattle.c62_wave.specs.Wave.{course_at, with_told, text_before, course_after, log_text, TellsWave}
@@ -22,14 +22,14 @@ text_append window (entry ∷ told) others course =
     (text_append window told others (with_told (course_at entry.0 course) entry.1))
     ∙ sym (append_assoc (text_before window entry.0 course) _ _)
 
-pub wave_nothing : (window : Window) (course : Course) (whole : Bool) (stream : Option (List ℕ)) (unsent : List ℕ)
+pub wave_nothing : (window : Window) (course : Course) (whole : Sent) (stream : Option (List ℕ)) (unsent : List ℕ)
     → TellsWave [] window course whole stream unsent window course whole stream unsent
 unfolding course_after log_text
 wave_nothing window course whole stream unsent =
     record { same_window = refl; follows = refl; writes = writes_none whole stream unsent }
 
 pub wave_more : (told others : List Entry) (window window' window'' : Window) (course course' course'' : Course)
-    (whole whole' whole'' : Bool) (stream stream' stream'' : Option (List ℕ)) (unsent unsent' unsent'' : List ℕ)
+    (whole whole' whole'' : Sent) (stream stream' stream'' : Option (List ℕ)) (unsent unsent' unsent'' : List ℕ)
     → TellsWave told window course whole stream unsent window' course' whole' stream' unsent'
     → TellsWave others window' course' whole' stream' unsent' window'' course'' whole'' stream'' unsent''
     → TellsWave (told ++ others) window course whole stream unsent window'' course'' whole'' stream'' unsent''

@@ -11,7 +11,7 @@ use crate::header::head;
 use c62_packet::Placed;
 use c62_pipe::Due;
 use c62_serial::State;
-use c62_trace::{Watch, Window, tell};
+use c62_trace::{Refused, Watch, Window, tell};
 use std::alloc::{AllocError, Global};
 use std::io::Write;
 
@@ -25,8 +25,8 @@ pub struct Wave<W> {
     room: usize,
     /// What isn't sent yet.
     pub unsent: Vec<u8>,
-    /// Whether the stream took all that was sent.
-    pub whole: bool,
+    /// Whether the stream took all that was sent, or refused some.
+    pub whole: Result<(), Refused>,
     pub stream: W,
 }
 
@@ -92,7 +92,7 @@ impl<W: Write + Drop> Wave<W> {
             course: Course::opening(state),
             room,
             unsent,
-            whole: true,
+            whole: Ok(()),
             stream,
         })
     }
@@ -109,9 +109,9 @@ impl<W: Write + Drop> Wave<W> {
         Ok(())
     }
 
-    /// Writes what is left of so many cycles, and sends it. Gives back the stream, and whether it took all; if it didn't, it has a
-    /// front of what was written. Where memory ran out it has a front too.
-    pub fn end(self, cycles: u64) -> (W, Result<bool, AllocError>)
+    /// Writes what is left of so many cycles, and sends it. Gives back the stream, and whether it took all; if it refused some, it
+    /// has a front of what was written. Where memory ran out it has a front too.
+    pub fn end(self, cycles: u64) -> (W, Result<Result<(), Refused>, AllocError>)
         ensures { IfOk result.1 (λ whole. (opening : Option (List ℕ)) (text : List ℕ)
             → IsWritten opening self.whole (W.contents self.stream) self.unsent.items text
             → IsTold whole opening (W.contents result.0) (text ++ end_text self.window cycles self.course)) }

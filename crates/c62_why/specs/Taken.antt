@@ -1,5 +1,6 @@
 -- What an instruction lacks in the cycle before its own (docs/SHOW.md, "Why not earlier"; docs/MACHINE.md, "Packet rules").
-use Rattle.std.specs.Prelude.{◌≡◌, ℕ, ◌+◌, ◌-◌, ◌≤◌, ◌<◌, ◌==◌, nat_lt, Bool, List, All, slice_get, take, find, count_by, Option, Some, MatchOption, if◌then◌else◌}
+use Rattle.std.specs.Prelude.{◌≡◌, ℕ, ◌+◌, ◌-◌, ◌≤◌, ◌<◌, ◌==◌, nat_lt, Bool, ◌||◌, List, [], ◌∷◌, ◌++◌, All, slice_get, take, find, count_by, Option, Some, None, MatchOption, if◌then◌else◌}
+use Rattle.std.specs.List.{list_any}
 use Rattle.c62_rules.specs.declared.resource.Resource.{Resource}
 use Rattle.c62_rules.specs.Resource.{capacity_of, taken_by, place_of}
 use Rattle.c62_rules.specs.Capacity.{uses, used}
@@ -48,3 +49,22 @@ pub record IsFirstTaken (placed : List Placed) (one : Placed) (taken : Taken) : 
 -- there is one, or enough of all that it takes
 abbrev pub FindsTaken : List Placed → Placed → Option Taken → Type 0
 FindsTaken placed one found = MatchOption found (All (IsEnoughFor placed one) (taken_by one.insn one.unit)) (IsFirstTaken placed one)
+
+-- ---- all of which there is not enough
+
+abbrev pub line_in : Option Placed → ℕ
+line_in None = 0
+line_in (Some holder) = holder.line
+
+-- a resource, and the first instruction of the cycle before that takes of it
+abbrev pub taken_at : List Placed → Placed → Resource → Taken
+taken_at placed one r = record { resource = r; by = line_in (find (holds r (one.cycle - 1)) placed) }
+
+abbrev pub is_of : Resource → Taken → Bool
+is_of r taken = place_of taken.resource == place_of r
+
+-- a resource beside others, where there is not enough of it, and it is none of them
+abbrev pub with_taken : List Placed → Placed → Taken → List Taken → Resource → List Taken
+with_taken placed one first more r =
+    if is_of r first || list_any (is_of r) more then more
+    else (if is_lacking placed one r then more ++ taken_at placed one r ∷ [] else more)

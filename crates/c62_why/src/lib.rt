@@ -8,4 +8,4 @@ mod why;
 
 pub use held::Held;
 pub use taken::Taken;
-pub use why::{Cause, Why, whys_of};
+pub use why::{Cause, Shortage, Why, critical_lines, whys_told};

@@ -1,15 +1,17 @@
 //! What an instruction lacks in the cycle before its own.
 
-ghost use Rattle.std.specs.Prelude.{◌≡◌, ◌≤◌, length, find, MatchOption};
+ghost use Rattle.std.specs.Prelude.{◌≡◌, ◌≤◌, [], length, find, fold, MatchOption, IfOk, OnOk};
+ghost use Rattle.std.specs.List.{list_any};
 ghost use Rattle.c62_read.specs.declared.limits.TheConstants.{MOST_INSTRUCTIONS};
-ghost use Rattle.c62_rules.specs.Resource.{capacity_of};
+ghost use Rattle.c62_rules.specs.Resource.{capacity_of, taken_by};
 ghost use Rattle.c62_rules.specs.Capacity.{uses, used};
 ghost use Rattle.c62_packet.specs.Packed.{issued};
-ghost use Rattle.c62_why.specs.Taken.{times, uses_at, holds, is_lacking, IsEnoughFor, IsLacking, FindsTaken};
+ghost use Rattle.c62_why.specs.Taken.{times, uses_at, holds, is_lacking, is_of, taken_at, with_taken, IsEnoughFor, IsLacking, FindsTaken};
 
 use c62_insn::{Insn, Unit};
 use c62_packet::Placed;
 use c62_rules::{Resource, taken_by};
+use std::alloc::{AllocError, Global};
 
 /// What the instructions of a cycle leave too little of for one more.
 #[derive(Clone, Copy)]
@@ -129,4 +131,68 @@ pub(crate) fn first_taken(placed: &[Placed], one: &Placed) -> Option<Taken>
         }
     }
     None
+}
+
+/// A resource, and the line of the first instruction of the cycle before an instruction's that takes of it.
+fn taken_at(placed: &[Placed], one: &Placed, resource: Resource) -> Taken
+    ensures { result ≡ taken_at placed.now one.now resource }
+{
+    let by = match holder(resource, one.cycle.saturating_sub(1), placed) {
+        Some(holder) => holder.line,
+        None => 0,
+    };
+    Taken { resource, by }
+}
+
+/// Whether this is a resource.
+fn is_of(resource: Resource, taken: &Taken) -> bool
+    ensures { result ≡ is_of resource taken.now }
+{
+    taken.resource.place() == resource.place()
+}
+
+/// Whether one of these is.
+fn is_among(resource: Resource, taken: &[Taken]) -> bool
+    ensures { result ≡ list_any (is_of resource) taken.now }
+{
+    taken.iter().any(|each| is_of(resource, each))
+}
+
+/// Adds a resource to others, where the cycle before an instruction's has too little of it, and it is none of them.
+fn push_taken(
+    more: &mut Vec<Taken>,
+    placed: &[Placed],
+    one: &Placed,
+    first: Taken,
+    resource: Resource,
+) -> Result<(), AllocError>
+    requires { length placed.now ≤ MOST_INSTRUCTIONS }
+    ensures { OnOk result (more.new.items ≡ with_taken placed.now one.now first more.old.items resource) }
+{
+    if is_of(resource, &first) || is_among(resource, more) {
+        return Ok(());
+    }
+    if !is_lacking(placed, one, resource) {
+        return Ok(());
+    }
+    more.push(taken_at(placed, one, resource))?;
+    Ok(())
+}
+
+/// What else the cycle before an instruction's has too little of for it, each resource once.
+pub(crate) fn more_taken(
+    alloc: Global,
+    placed: &[Placed],
+    one: &Placed,
+    first: Taken,
+) -> Result<Vec<Taken>, AllocError>
+    requires { length placed.now ≤ MOST_INSTRUCTIONS }
+    ensures { IfOk result (λ more. more.items ≡ fold (with_taken placed.now one.now first) [] (taken_by one.now.insn one.now.unit)) }
+{
+    let mut more = Vec::new(alloc);
+    let takes = taken_by(one.insn, one.unit);
+    for resource in takes.as_slice() {
+        push_taken(&mut more, placed, one, first, *resource)?;
+    }
+    Ok(more)
 }

@@ -12,7 +12,7 @@ returns-then-not-is_granted c =
     = search (rules, c.is_granted.ensures) in
     left_of (map trips_of c.args.promises.now.trips.items) c.args.promises.now.apart.items c.args.label.now
     (region_read c.args.region.now) c.without.result c.without.ensures.number c.without.ensures.made
-    c.without.ensures.kept none
+    c.without.ensures.kept c.without.ensures.limit none
 
 pub returns : goal.returns
 returns c =

@@ -7,8 +7,8 @@ use Rattle.c62_program.proofs.teaching.run_lint.Goals as goal
 pub returns-in_default-clause-ok : goal.returns-in_default-clause-ok
 returns-in_default-clause-ok g c =
     let none : linting_of (map string_bytes c.args.words.now) ≡ None = search rules in
-    lint_refused c.args.isa c.write_whole.result _ _ _ _ _ _ _ none
-    (rw c.as_bytes.ensures.value at c.write_whole.ensures)
+    lint_refused c.args.isa c.write_whole.result _ _ _ _ _ _ _ _ (search rules) none
+    (rw c.deref-in_default.ensures.value at c.write_whole.ensures)
 
 pub returns-clause-ok : goal.returns-clause-ok
 returns-clause-ok g c =

@@ -21,7 +21,7 @@ returns-in-Err-text g c =
 
 pub returns : goal.returns
 returns g c =
-    traced c.args.isa _ _ _ _ c.args.call.now _ _ _ _ _ _ _ _ _ _ c.answer_call-status.result
+    traced c.args.isa _ _ _ _ c.args.call.now _ _ _ _ _ _ _ _ _ _ c.answer_call-status.result _
     (rw c.deref.ensures.value at c.in-Ok.ensures.ok)
     (rw (c.in-Ok-text.is, c.deref-2.ensures.value) at c.text_traced-errors.ensures.ok)
     (rw (c.deref-3.ensures.value, c.bytes_of.ensures) at c.answer_call-status.ensures)

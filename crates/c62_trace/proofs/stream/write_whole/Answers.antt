@@ -6,4 +6,4 @@ pub loop-taken-preserved : goal.loop-taken-preserved
 loop-taken-preserved g c =
     front_more (g.W.Write.contents c.args.stream.now) (g.W.Write.contents c.loop-taken.stream)
     (g.W.Write.contents c.offer.new.stream) c.args.bytes.now
-    c.loop-taken.taken c.in-Some.count (search rules) c.loop-taken.invariant c.in-Some.ensures.2
+    c.loop-taken.taken c.in-Ok.count (search rules) c.loop-taken.invariant c.in-Ok.ensures.2

@@ -11,5 +11,5 @@ returns c = record {
   line = refl;
   cycle = refl;
   slack = c.slack_of.ensures;
-  cause = c.cause_of.ensures;
+  cause = c.in_ok-cause.ensures;
 }

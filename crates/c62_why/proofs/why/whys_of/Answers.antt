@@ -13,8 +13,8 @@ loop-j-init c =
 pub loop-j-preserved : goal.loop-j-preserved
 loop-j-preserved c =
     one_more (insns_of c.args.plan.now) c.args.cycles c.args.placed.now c.loop-j.whys.items c.push.new.self.items
-    c.loop-j.j c.why_of.result
-    c.in_ok-push.ensures.items c.loop-j.invariant c.why_of.ensures
+    c.loop-j.j c.in_ok-why.why
+    c.in_ok-push.ensures.items c.loop-j.invariant c.in_ok-why.ensures
 
 pub returns : goal.returns
 returns c =

@@ -12,4 +12,5 @@ returns c = λ promise region trips longest same is. (
     enters = ap (λ (n : ℕ). n + 1) c.from.ensures;
     shown = c.shortness-shortness.ensures promise region trips longest is;
   },
+  tt,
 )

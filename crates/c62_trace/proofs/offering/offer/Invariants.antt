@@ -1,5 +1,5 @@
 use Rattle.std.specs.Io.KnownBytes.{Keeps}
-use Rattle.c62_trace.proofs.stream.offer.Given as goal
+use Rattle.c62_trace.proofs.offering.offer.Given as goal
 
 -- writes that were interrupted took nothing
 abbrev pub invariant-loop : goal.invariant-loop
