@@ -194,7 +194,13 @@ module _ (text : Text) (first limit : ℕ) (opening : Machine) where
           last = h.last;
           end = h.end;
           leads = h.under;
-          stops = inl (record { cycle = at; whole = h.whole; breaks = h.breaks; seen = inl h.before; told = refl });
+          stops = inl (record {
+            cycle = at;
+            whole = h.whole;
+            breaks = h.breaks;
+            seen = inl h.before;
+            told = let before : at < h.end = h.before in omega arith;
+          });
         };
         by = refl;
       }
@@ -204,8 +210,7 @@ module _ (text : Text) (first limit : ℕ) (opening : Machine) where
       → (there : IsAt text first limit opening path position end way)
       → ended text limit (on_path text opening path) position end ≡ Some stop
       → FliesBy text first limit opening (flown_from stop end (clash_from 4 end way.flight.slots)).stop
-      (flown_from stop end (clash_from 4 end way.flight.slots)).cycles
-      (settled ((flown_from stop end (clash_from 4 end way.flight.slots)).cycles + 4 - end) end way).machine path
+      (flown_from stop end (clash_from 4 end way.flight.slots)).cycles (settled 4 end way).machine path
   ended_flies path position end stop way there e =
       by_clash (clash_from 4 end way.flight.slots)
       (finds (issued_on text path) opening there.standing.ascends 4 end end (8 * end) way.flight way.machine
@@ -214,22 +219,20 @@ module _ (text : Text) (first limit : ℕ) (opening : Machine) where
       block : List Placed
       block = issued_on text path
 
-      flies : (told : Stop) (cycles count : ℕ) → end + count ≡ cycles + 4
-          → Stops text limit (on_path text opening path) position end told cycles
-          → FliesBy text first limit opening told cycles (settled count end way).machine path
-      flies told cycles count same stops =
-          let down = lands (issued_on text path) opening there.standing.ascends count end (8 * end) way
+      flies : (told : Stop) → Stops text limit (on_path text opening path) position end told end
+          → FliesBy text first limit opening told end (settled 4 end way).machine path
+      flies told stops =
+          let down = lands (issued_on text path) opening there.standing.ascends 4 end (8 * end) way
           there.standing.row.flying in
-          let left = leaves (issued_on text path) opening there.standing.ascends (end + count) down.0
-          (settled count end way).flight (settled count end way).machine down.1 in
+          let left = leaves (issued_on text path) opening there.standing.ascends (end + 4) down.0
+          (settled 4 end way).flight (settled 4 end way).machine down.1 in
           record {
             flies = record {
               path = path;
               did = the_run (issued_on text path) opening;
               runs = record {
                 run = the_run_runs (issued_on text path) opening;
-                leaves = subst (λ n. LeavesState (issued_on text path) n opening (the_run (issued_on text path) opening)
-                    (settled count end way).machine) same left;
+                leaves = left;
               };
               last = position;
               end = end;
@@ -241,9 +244,9 @@ module _ (text : Text) (first limit : ℕ) (opening : Machine) where
 
       by_clash : (found : Option (ℕ × Stop)) → Finds (issued_on text path) opening there.standing.ascends 4 end found
           → FliesBy text first limit opening (flown_from stop end found).stop (flown_from stop end found).cycles
-          (settled ((flown_from stop end found).cycles + 4 - end) end way).machine path
+          (settled 4 end way).machine path
       by_clash None f =
-          flies stop end (end + 4 - end) (omega arith)
+          flies stop
           (inr (record {
             whole = all_quiet (issued_on text path) opening there.standing.ascends end there.standing.early
                 there.whole f;
@@ -252,12 +255,12 @@ module _ (text : Text) (first limit : ℕ) (opening : Machine) where
           }))
       by_clash (Some (at, clash)) f =
           let from : end ≤ at = f.0 in
-          flies clash (at + 1) (at + 1 + 4 - end) (omega arith)
+          flies clash
           (inl (record {
             cycle = at;
             whole = λ c l. ⊎_elim {C = broken (on_path text opening path) c ≡ None} (λ a. there.whole c a)
                 (λ a. f.3 c a l) (cases_lt c end);
             breaks = f.2;
             seen = inr (ap is_some e);
-            told = refl;
+            told = omega arith;
           }))

@@ -24,22 +24,20 @@ module _ (text : Text) (first limit : ℕ) (opening : Machine) (path : List Visi
       → (there : IsAt text first limit opening path position end way)
       → ended text limit (on_path text opening path) position end ≡ Some stop
       → flown ≡ flown_from stop end (clash_from 4 end way.flight.slots)
-      → left ≡ settled (flown.cycles + 4 - end) end way
+      → left ≡ settled 4 end way
       → FliesBy text first limit opening flown.stop flown.cycles left.machine path
   down_flies position end stop way left flown there e f l =
-      let told : Flown = flown_from stop end (clash_from 4 end way.flight.slots) in
-      let same : left ≡ settled ((flown_from stop end (clash_from 4 end way.flight.slots)).cycles + 4 - end) end way = l
-      ∙ ap (λ (g : Flown). settled (g.cycles + 4 - end) end way) f in
-      let P : Flown → Way → Type 0 = λ g w. FliesBy text first limit opening g.stop g.cycles w.machine path in
-      subst (λ g. P g left) (sym f)
-      (subst (λ w. P (flown_from stop end (clash_from 4 end way.flight.slots)) w) (sym same)
+      subst (λ (g : Flown). FliesBy text first limit opening g.stop g.cycles left.machine path) (sym f)
+      (subst (λ (w : Way). FliesBy text first limit opening
+      (flown_from stop end (clash_from 4 end way.flight.slots)).stop
+      (flown_from stop end (clash_from 4 end way.flight.slots)).cycles w.machine path) (sym l)
       (ended_flies text first limit opening path position end stop way there e))
 
   pub limit_flies : (row cycle : ℕ) (way left : Way) (flown : Flown)
       → (there : IsAt text first limit opening path (At row) cycle way)
       → (row < length text.rows) ⊎ (list_any is_some way.turns ≡ true) → limit ≤ cycle
       → flown ≡ flown_from Limit cycle (clash_from 4 cycle way.flight.slots)
-      → left ≡ settled (flown.cycles + 4 - cycle) cycle way
+      → left ≡ settled 4 cycle way
       → FliesBy text first limit opening flown.stop flown.cycles left.machine path
   limit_flies row cycle way left flown there on l f e =
       down_flies (At row) cycle Limit way left flown there
@@ -49,7 +47,7 @@ module _ (text : Text) (first limit : ℕ) (opening : Machine) (path : List Visi
       → (there : IsAt text first limit opening path (At row) cycle way)
       → length text.rows ≤ row → list_any is_some way.turns ≡ false
       → flown ≡ flown_from End cycle (clash_from 4 cycle way.flight.slots)
-      → left ≡ settled (flown.cycles + 4 - cycle) cycle way
+      → left ≡ settled 4 cycle way
       → FliesBy text first limit opening flown.stop flown.cycles left.machine path
   end_flies row cycle way left flown there l none f e =
       down_flies (At row) cycle End way left flown there
@@ -58,7 +56,7 @@ module _ (text : Text) (first limit : ℕ) (opening : Machine) (path : List Visi
   pub register_flies : (word end : ℕ) (way left : Way) (flown : Flown)
       → IsAt text first limit opening path (Outside word) end way
       → flown ≡ flown_from (Register word) end (clash_from 4 end way.flight.slots)
-      → left ≡ settled (flown.cycles + 4 - end) end way
+      → left ≡ settled 4 end way
       → FliesBy text first limit opening flown.stop flown.cycles left.machine path
   register_flies word end way left flown there f e = down_flies (Outside word) end (Register word) way left flown there
       refl f e

@@ -136,7 +136,7 @@ row_passes insns idle cycle way = rest_of_row idle cycle way.turns (issue_all cy
 
 -- ---- the stop
 
--- so a run stops in a cycle, or by the first clash of what still lands
+-- so a run stops in a cycle, or by the first clash of what still lands, of which no cycle counts
 abbrev pub flown_from : Stop → ℕ → Option (ℕ × Stop) → Flown
 flown_from stop end None = record { stop = stop; cycles = end }
-flown_from stop end (Some clash) = record { stop = clash.1; cycles = clash.0 + 1 }
+flown_from stop end (Some clash) = record { stop = clash.1; cycles = end }

@@ -162,21 +162,18 @@ impl Underway {
     }
 
     /// Stops a run so, in a cycle before which it stands, or by a clash of what still lands. All that
-    /// is in flight lands.
+    /// is in flight lands, in cycles that no longer count.
     pub fn come_down(&mut self, stop: Stop, end: u64, state: &mut State) -> Flown
         requires { end < 2 ^ 62 }
         ensures flown { result ≡ flown_from stop end (clash_from 4 end self.old.pipe.slots) }
         ensures landed { on_way self.new.pipe self.new.turns state.new.machine
-            ≡ settled (result.cycles + 4 - end) end (on_way self.old.pipe self.old.turns state.old.machine) }
+            ≡ settled 4 end (on_way self.old.pipe self.old.turns state.old.machine) }
     {
-        let flown = match self.clash_from(end, 4) {
-            Some((cycle, clash)) => Flown {
-                stop: clash,
-                cycles: cycle + 1,
-            },
-            None => Flown { stop, cycles: end },
+        let stop = match self.clash_from(end, 4) {
+            Some((_, clash)) => clash,
+            None => stop,
         };
-        self.settle(end, flown.cycles + 4 - end, state);
-        flown
+        self.settle(end, 4, state);
+        Flown { stop, cycles: end }
     }
 }

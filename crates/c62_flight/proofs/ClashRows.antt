@@ -18,7 +18,7 @@ clash opening sound = grind (
 )
 
 pub clash_behind : (opening : Machine) → IsSound opening
-    → Runs (text_of (packet (square 1 ∷ square 2 ∷ []) ∷ []) []) 100 opening (Clash a2 1 2) 2
+    → Runs (text_of (packet (square 1 ∷ square 2 ∷ []) ∷ []) []) 100 opening (Clash a2 1 2) 1
 unfolding the_run acts_to
 clash_behind opening sound =
     breaks_so (text_of (packet (square 1 ∷ square 2 ∷ []) ∷ []) []) 100 opening (v 0 0 ∷ []) (At 1) 1 1 (Clash a2 1 2)

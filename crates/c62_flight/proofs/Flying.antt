@@ -1,7 +1,7 @@
 -- Each text has a flight.
 use Rattle.std.proofs.Common.{◌≡◌, ℕ, zero, suc, ◌+◌, ◌<◌, ◌≤◌, Bool, cond, List, [], ◌∷◌, ◌++◌, Option}
 use Rattle.std.proofs.Common.{Some, None, refl, sym, ◌∙◌, ap, subst, ◌⊎◌, inl, inr, arith}
-use Rattle.std.specs.Prelude.{nat_le}
+use Rattle.std.specs.Prelude.{nat_le, min}
 use Rattle.std.proofs.lemmas.List.{append-nil, append_assoc}
 use Rattle.c62_serial.specs.State.{Machine, IsSound}
 use Rattle.c62_packet.specs.declared.placed.Placed.{Placed}
@@ -173,7 +173,7 @@ module _ (text : Text) (limit : ℕ) (opening : Machine) where
       by_broken (inr b) =
           no_more front position cycle (record {
             stop = b.stop;
-            cycles = b.cycle + 1;
+            cycles = min (b.cycle + 1) cycle;
             stops = inl (record {
               cycle = b.cycle;
               whole = b.whole;

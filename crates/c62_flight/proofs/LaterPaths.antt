@@ -1,6 +1,7 @@
 -- Paths that go on, and paths so many cycles later.
 use Rattle.std.proofs.Common.{◌≡◌, ℕ, ◌+◌, ◌<◌, ◌≤◌, eqb, leb, List, [], ◌∷◌, ◌++◌, map, Some, refl, sym, ◌∙◌, ap}
 use Rattle.std.proofs.Common.{subst, inl, inr, arith}
+use Rattle.std.specs.Prelude.{min}
 use Rattle.std.proofs.lemmas.Bool.{le-leb, lt-leb}
 use Rattle.std.proofs.lemmas.Option.{none-some}
 use Rattle.std.proofs.lemmas.List.{map-append}
@@ -60,10 +61,12 @@ issued_before text first limit opening stop cycles final f p h = by_stop f.stops
     by_stop : Stops text limit (record { placed = issued_on text f.path; did = f.did }) f.last f.end stop cycles
         → p.cycle < cycles
     by_stop (inl b) =
-        let e : cycles ≡ b.cycle + 1 = b.told in
+        let e : cycles ≡ min (b.cycle + 1) f.end = b.told in
         let l : p.cycle < b.cycle + 1
         = path_unbroken text limit (record { placed = issued_on text f.path; did = f.did }) (At first) 0 f.path f.last
-        f.end b.cycle stop f.leads b.breaks p h in omega arith
+        f.end b.cycle stop f.leads b.breaks p h in
+        let u : p.cycle < f.end = path_early text limit (record { placed = issued_on text f.path; did = f.did })
+        (At first) 0 f.path f.last f.end f.leads p h in omega arith
     by_stop (inr e) =
         let told : cycles ≡ f.end = e.told in
         let l : p.cycle < f.end = path_early text limit (record { placed = issued_on text f.path; did = f.did })

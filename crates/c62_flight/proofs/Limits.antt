@@ -1,13 +1,14 @@
 -- A limit says nothing of a flight that does not stop by it.
-use Rattle.std.proofs.Common.{◌≡◌, ℕ, ◌≤◌, List, [], ◌∷◌}
-use Rattle.std.proofs.Common.{arith}
+use Rattle.std.proofs.Common.{◌≡◌, ℕ, ◌<◌, ◌≤◌, ◌⊎◌, List, [], ◌∷◌, sym, ◌∙◌, inl, inr, arith}
+use Rattle.std.proofs.lemmas.Bool.{cases_lt}
+use Rattle.std.proofs.lemmas.Option.{none-some}
 use Rattle.c62_serial.specs.State.{Machine}
 use Rattle.c62_flight.specs.declared.stop.Stop.{Stop}
 use Rattle.c62_flight.specs.declared.stop.Stop.TheVariants.{Limit}
 use Rattle.c62_flight.specs.Text.{Text, Position}
 use Rattle.c62_flight.specs.Issued.{Visit, Issued, over_of}
 use Rattle.c62_flight.specs.Flight.{stands_after, Leads, Stops}
-use Rattle.c62_flight.specs.Laws.{FliesUnderMore}
+use Rattle.c62_flight.specs.Laws.{IsWholeFrom, FliesUnderMore}
 use Rattle.std.proofs.lemmas.Bool.Decides.{nat_tests}
 
 module _ (limit greater : ℕ) (more : limit ≤ greater) where
@@ -22,10 +23,21 @@ module _ (limit greater : ℕ) (more : limit ≤ greater) where
       leads_under_more (stands_after text issued visit) (over_of text issued visit) path last end leads.1,
     )
 
-    stops_under_more : (last : Position) (end : ℕ) (stop : Stop) (cycles : ℕ) → (stop ≡ Limit → ⊥) → cycles ≤ end
+    stops_under_more : (last : Position) (end : ℕ) (stop : Stop) (cycles : ℕ) → (stop ≡ Limit → ⊥) → IsWholeFrom end issued
         → Stops text limit issued last end stop cycles
         → Stops text greater issued last end stop cycles
-    stops_under_more last end stop cycles other l h = grind arith
+    stops_under_more last end stop cycles other l (inl b) = inl (record {
+      cycle = b.cycle;
+      whole = b.whole;
+      breaks = b.breaks;
+      seen = inl (early (cases_lt b.cycle end));
+      told = b.told;
+    })
+      where
+        early : (b.cycle < end) ⊎ (end ≤ b.cycle) → b.cycle < end
+        early (inl e) = e
+        early (inr late) = absurd (none-some stop (sym (l b.cycle late) ∙ b.breaks))
+    stops_under_more last end stop cycles other l (inr e) = grind arith
 
 pub under_more : (text : Text) (first limit : ℕ) (opening : Machine) (stop : Stop) (cycles : ℕ) (final : Machine)
     → FliesUnderMore text first limit opening stop cycles final

@@ -1,7 +1,7 @@
 -- Tests that say of the rows of a text how it flies.
 use Rattle.std.proofs.Common.{◌≡◌, ℕ, zero, suc, ◌+◌, ◌<◌, Bool, true, ◌&&◌, List, [], ◌∷◌, Option, Some, None}
 use Rattle.std.proofs.Common.{refl, ◌⊎◌, inl, inr, ⊎_elim, arith}
-use Rattle.std.specs.Prelude.{is_some, is_none, nat_lt, nat_le}
+use Rattle.std.specs.Prelude.{min, is_some, is_none, nat_lt, nat_le}
 use Rattle.std.specs.List.{list_all}
 use Rattle.std.proofs.lemmas.Bool.{cases_lt}
 use Rattle.c62_serial.specs.State.{Machine, IsSound}
@@ -108,9 +108,9 @@ pub record IsBroken (text : Text) (limit : ℕ) (opening : Machine) (path : List
 
 pub breaks_so : (text : Text) (limit : ℕ) (opening : Machine) (path : List Visit) (last : Position) (end cycle : ℕ)
     (stop : Stop) → IsSound opening
-    → IsBroken text limit opening path last end cycle stop → Runs text limit opening stop (cycle + 1)
+    → IsBroken text limit opening path last end cycle stop → Runs text limit opening stop (min (cycle + 1) end)
 breaks_so text limit opening path last end cycle stop sound t =
-    let g : Goes text limit opening [] (At 0) 0 path stop (cycle + 1) = record {
+    let g : Goes text limit opening [] (At 0) 0 path stop (min (cycle + 1) end) = record {
       issued = on_path text opening path;
       is = refl;
       run = the_run_runs (issued_on text path) opening;
@@ -126,7 +126,7 @@ breaks_so text limit opening path last end cycle stop sound t =
         told = refl;
       });
     } in
-    let r = flies_from text 0 limit opening path stop (cycle + 1) sound g in (r.0, r.1)
+    let r = flies_from text 0 limit opening path stop (min (cycle + 1) end) sound g in (r.0, r.1)
 
 abbrev pub v : ℕ → ℕ → Visit
 v row start = record { row = row; start = start }

@@ -1,7 +1,7 @@
 -- How a flight stops where it is broken, and that it stops at all.
 use Rattle.std.proofs.Common.{◌≡◌, ℕ, zero, suc, ◌+◌, ◌<◌, ◌≤◌, List, [], ◌∷◌, Option, Some, None, refl, ◌∙◌, ap, subst}
 use Rattle.std.proofs.Common.{◌⊎◌, inl, inr, ⊎_elim, arith}
-use Rattle.std.specs.Prelude.{is_some, Contains}
+use Rattle.std.specs.Prelude.{is_some, min, Contains}
 use Rattle.std.specs.Option.{option_or}
 use Rattle.std.proofs.lemmas.Bool.{cases_order, cond-false, and_left, ne_eqb}
 use Rattle.c62_op.specs.declared.register.Reg.{Reg}
@@ -103,14 +103,13 @@ stopped_at text limit s issued last end stop run early ends = by_first (first_br
     by_first : IsWholeBefore issued (end + 4) ⊎ BreaksBelow issued (end + 4) → Stopped text limit issued last end
     by_first (inr b) = record {
       stop = b.stop;
-      cycles = b.cycle + 1;
+      cycles = min (b.cycle + 1) end;
       stops = inl (record {
         cycle = b.cycle;
         whole = b.whole;
         breaks = b.breaks;
         seen = inr (ap is_some ends);
-        told =
-            refl;
+        told = refl;
       });
     }
     by_first (inl whole) = record {

@@ -1,6 +1,6 @@
 -- The flight of a text of packets: the path that a run takes with all that was issued in flight, how it stops, and what it leaves
 -- (docs/MACHINE.md, "Cycles and delays" and "Branches"). What instructions do is told over the whole path, as of a block.
-use Rattle.std.specs.Prelude.{◌≡◌, ◌⊎◌, ℕ, ◌+◌, ◌<◌, nat_le, if◌then◌else◌, List, [], ◌∷◌, Option, Some, None, is_some, IsTrue}
+use Rattle.std.specs.Prelude.{◌≡◌, ◌⊎◌, ℕ, ◌+◌, ◌<◌, nat_le, min, if◌then◌else◌, List, [], ◌∷◌, Option, Some, None, is_some, IsTrue}
 use Rattle.c62_serial.specs.State.{Machine}
 use Rattle.c62_meaning.specs.Packet.{Did}
 use Rattle.c62_meaning.specs.Cut.{RunsTo}
@@ -37,13 +37,14 @@ Leads text limit issued position cycle (visit ∷ path) last end =
 
 -- ---- the stop
 
--- a cycle is broken, and none before it: one of the path's last row, or one behind the end in which something still lands
+-- A cycle is broken, and none before it: one of the path's last row, which is the last that counts, or one behind the end in which
+-- something still lands, where no cycle counts.
 pub record Breaks (text : Text) (limit : ℕ) (issued : Issued) (last : Position) (end : ℕ) (stop : Stop) (cycles : ℕ) : Type 0 where
   pub cycle : ℕ
   pub whole : IsWholeBefore issued cycle
   pub breaks : broken issued cycle ≡ Some stop
   pub seen : (cycle < end) ⊎ IsTrue (is_some (ended text limit issued last end))
-  pub told : cycles ≡ cycle + 1
+  pub told : cycles ≡ min (cycle + 1) end
 
 -- the run ends where its path leads, and no cycle is broken, whatever still lands
 pub record Ends (text : Text) (limit : ℕ) (issued : Issued) (last : Position) (end : ℕ) (stop : Stop) (cycles : ℕ) : Type 0 where

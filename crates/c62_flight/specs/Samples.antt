@@ -178,7 +178,7 @@ pub record SamplesFly (opening : Machine) : Type 0 where
   pub within_row : word_in opening b3 ≡ 2147483716 → Runs go_on 100 opening (Register 2147483716) 6
   pub small_word : word_in opening b3 ≡ 64 → Runs go_on 100 opening (Register 64) 6
   pub clash : Runs (text_of (packet (square 1 ∷ []) ∷ packet (five_a2 2 ∷ []) ∷ nop 8 ∷ []) []) 100 opening (Clash a2 1 2) 2
-  pub clash_behind : Runs (text_of (packet (square 1 ∷ square 2 ∷ []) ∷ []) []) 100 opening (Clash a2 1 2) 2
+  pub clash_behind : Runs (text_of (packet (square 1 ∷ square 2 ∷ []) ∷ []) []) 100 opening (Clash a2 1 2) 1
   pub branches : Runs (text_of (packet (branch 1 0 ∷ branch 2 0 ∷ []) ∷ []) (0 ∷ [])) 100 opening (Branches 1 2) 1
   pub branches_first : Runs (text_of (packet (branch 1 0 ∷ branch 2 0 ∷ five_a2 3 ∷ five_a2 4 ∷ []) ∷ []) (0 ∷ [])) 100 opening (Branches 1 2) 1
 

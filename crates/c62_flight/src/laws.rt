@@ -23,8 +23,8 @@ pub fn has_one_flight()
         → HasOneFlight text first limit opening }
 {}
 
-/// A limit says nothing of a flight that doesn't stop by it, and of which nothing clashes behind its
-/// path's end.
+/// A limit says nothing of a flight that doesn't stop by it, and of which nothing clashes from its
+/// path's end on.
 pub fn limits_only_stop()
     ensures { (text : Text) (first limit : ℕ) (opening : Machine) (stop : Stop) (cycles : ℕ) (final : Machine)
         → FliesUnderMore text first limit opening stop cycles final }

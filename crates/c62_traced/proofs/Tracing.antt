@@ -18,16 +18,16 @@ use Rattle.c62_exec.specs.declared.run.Flown.{Flown}
 use Rattle.c62_exec.specs.declared.underway.Passed.{Passed}
 use Rattle.c62_exec.specs.declared.underway.Passed.TheVariants.{Broken}
 use Rattle.c62_exec.specs.Step.{Way, Gone, gone, row_passes, clash_from, flown_from}
-use Rattle.c62_exec.proofs.Down.{Finds, finds}
 use Rattle.c62_exec.proofs.Loop.{goes, row_rises}
 use Rattle.c62_exec.proofs.Paths.{FliesBy, Goes, IsAt, IsHurt, on_to, row_flies}
 use Rattle.c62_exec.proofs.RowBegins.{row_in}
+use Rattle.c62_exec.proofs.Soon.{soon_down}
 use Rattle.c62_trace.specs.Event.{Event, Entry, entries}
 use Rattle.c62_trace.proofs.Events.{events_same}
 use Rattle.c62_traced.specs.Trace.{cycle_log, log_of}
 use Rattle.c62_traced.specs.Row.{settling_log, row_log}
 use Rattle.c62_traced.specs.Flight.{IsFlightLog}
-use Rattle.c62_traced.proofs.Quiet.{settled_log, quiet_log}
+use Rattle.c62_traced.proofs.Quiet.{settled_log}
 use Rattle.c62_traced.proofs.Cycles.{told_to, told_is, whole_row}
 use Rattle.c62_traced.proofs.Ranges.{range_more, range_same}
 
@@ -102,22 +102,7 @@ module _ (text : Text) (first limit : ℕ) (opening : Machine) (path : List Visi
       there.standing.row.flying there.standing.early)
       ∙ sym (range_more (cycle_log entries (issued_on text path) opening
       (the_run (issued_on text path) opening)) end 4)
-      ∙ sym (quiet_log opening (issued_on text path) there.standing.ascends end (flown.cycles - end)
-      there.standing.early)
-      ∙ ap (λ n. path_log text opening path n) count
-    where
-      late : (found : Option (ℕ × Stop))
-          → Finds (issued_on text path) opening there.standing.ascends 4 end found → end ≤
-          (flown_from stop end found).cycles
-      late None h = omega arith
-      late (Some found) h = let from : end ≤ found.0 = h.0 in omega arith
-
-      count : end + 4 + (flown.cycles - end) ≡ flown.cycles + 4
-      count =
-          let from : end ≤ flown.cycles = subst (λ (g : Flown). end ≤ g.cycles) (sym f)
-          (late (clash_from 4 end way.flight.slots)
-          (finds (issued_on text path) opening there.standing.ascends 4 end end (8 * end) way.flight way.machine
-          there.standing.row.flying there.standing.early (omega arith) (omega arith))) in omega arith
+      ∙ ap (λ n. path_log text opening path (n + 4)) (sym (soon_down stop end way.flight.slots flown f))
 
   -- a cycle of a row was broken
   pub traced_broken : (row cycle : ℕ) (way now : Way) (at : ℕ) (stop : Stop)

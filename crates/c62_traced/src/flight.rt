@@ -31,7 +31,7 @@ fn come_down<T: Watch>(
     requires { end < 2 ^ 62 }
     ensures flown { IfOk result (λ flown. flown ≡ flown_from stop end (clash_from 4 end underway.old.pipe.slots)) }
     ensures landed { IfOk result (λ flown. on_way underway.new.pipe underway.new.turns state.new.machine
-        ≡ settled (flown.cycles + 4 - end) end (on_way underway.old.pipe underway.old.turns state.old.machine)) }
+        ≡ settled 4 end (on_way underway.old.pipe underway.old.turns state.old.machine)) }
     ensures told { IfOk result (λ _. T.tells watch.old watch.new (settling_log end 4 underway.old.pipe.slots)) }
 {
     tell_settling(end, &underway.pipe, watch)?;

@@ -246,7 +246,7 @@ pub returns-then-cycle-most-clause-soon : goal.returns-then-cycle-most-clause-so
 returns-then-cycle-most-clause-soon c =
     let most : c.from-most.result ≡ c.args.limit = c.loop-row.invariant.most in
     let cycle : c.loop-row.cycle ≤ c.from-most.result + 2 ^ 33 = c.loop-row.invariant.cycle in
-    let down : c.come_down.result.cycles ≤ c.loop-row.cycle + 4 = soon_down Limit c.loop-row.cycle
+    let down : c.come_down.result.cycles ≡ c.loop-row.cycle = soon_down Limit c.loop-row.cycle
     c.loop-row.underway.pipe.slots c.come_down.result c.come_down.ensures.flown in
     omega arith
 
@@ -262,7 +262,7 @@ returns-in-Err-clause-soon c =
     let most : c.from-most.result ≡ c.args.limit = c.loop-row.invariant.most in
     let less : c.loop-row.cycle < c.from-most.result = omega arith in
     let end : c.in-Over.end ≤ c.loop-row.cycle + 2 ^ 32 = c.in-Over.ensures.end in
-    let down : c.come_down-in-Err.result.cycles ≤ c.in-Over.end + 4 =
+    let down : c.come_down-in-Err.result.cycles ≡ c.in-Over.end =
     soon_down (Register c.in-Err.word) c.in-Over.end c.run_row.new.underway.pipe.slots c.come_down-in-Err.result
     c.come_down-in-Err.ensures.flown in
     omega arith
@@ -271,6 +271,6 @@ pub returns-clause-soon : goal.returns-clause-soon
 returns-clause-soon c =
     let most : c.from-most.result ≡ c.args.limit = c.loop-row.invariant.most in
     let cycle : c.loop-row.cycle ≤ c.from-most.result + 2 ^ 33 = c.loop-row.invariant.cycle in
-    let down : c.come_down-2.result.cycles ≤ c.loop-row.cycle + 4 = soon_down End c.loop-row.cycle
+    let down : c.come_down-2.result.cycles ≡ c.loop-row.cycle = soon_down End c.loop-row.cycle
     c.loop-row.underway.pipe.slots c.come_down-2.result c.come_down-2.ensures.flown in
     omega arith
