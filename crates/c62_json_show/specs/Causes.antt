@@ -43,11 +43,11 @@ one_taken taken = object (taken_members taken)
 unfoldable pub all_taken : Shortage → List Token
 all_taken shortage = one_taken shortage.first ++ flat_map one_taken shortage.more.items
 
-abbrev pub all_taken_of : Cause → List Token
-all_taken_of First = []
-all_taken_of (Held held) = []
-all_taken_of (Taken shortage) = all_taken shortage
-all_taken_of Nothing = []
+abbrev pub all_taken_member : Cause → List Token
+all_taken_member First = array_member (codes "all_taken") []
+all_taken_member (Held held) = array_member (codes "all_taken") []
+all_taken_member (Taken shortage) = array_member (codes "all_taken") (all_taken shortage)
+all_taken_member Nothing = array_member (codes "all_taken") []
 
 -- where an instruction stands, and by how many cycles it could come later
 unfoldable pub standing : Why → List Token
@@ -57,6 +57,4 @@ standing why =
 -- what keeps it from the cycle before: nothing of that in cycle 0, or where nothing does
 unfoldable pub cause : Why → List Token
 cause why =
-    object (
-    standing why ++ held_member why.cause ++ taken_member why.cause ++ array_member (codes "all_taken") (all_taken_of why.cause)
-    )
+    object (standing why ++ held_member why.cause ++ taken_member why.cause ++ all_taken_member why.cause)

@@ -4,8 +4,9 @@ ghost use Rattle.std.specs.Prelude.{◌≡◌, codes};
 ghost use Rattle.std.specs.List.{flat_map};
 ghost use Rattle.c62_json.specs.Document.{Adds};
 ghost use Rattle.c62_json_packets.specs.Member.{array_member, object_member};
-ghost use Rattle.c62_json_show.specs.Causes.{held_members, held_member, taken_members, taken_member, one_taken, all_taken, all_taken_of, standing, cause};
+ghost use Rattle.c62_json_show.specs.Causes.{held_members, held_member, taken_members, taken_member, one_taken, all_taken, all_taken_member, standing, cause};
 
+use crate::shown::push_empty;
 use crate::words::{reason_words, resource_words};
 use c62_json_packets::member::{
     begin_array, begin_object, push_null, push_number, push_signed, push_string,
@@ -95,33 +96,30 @@ fn push_each_taken(alloc: Global, out: &mut Writer, more: &[Taken]) -> Result<()
     Ok(())
 }
 
-/// Writes all that others have taken.
-#[tactic(auto, unfolding(crate::specs::Causes::all_taken))]
-fn push_shortage(alloc: Global, out: &mut Writer, shortage: &Shortage) -> Result<(), AllocError>
-    ensures { Adds result out.old out.new (all_taken shortage.now) }
+/// Writes a member of all that others have taken.
+#[tactic(auto, unfolding(c62_json_packets::specs::Member::array_member, crate::specs::Causes::all_taken))]
+fn push_shortage(
+    alloc: Global,
+    out: &mut Writer,
+    name: &str,
+    shortage: &Shortage,
+) -> Result<(), AllocError>
+    ensures { Adds result out.old out.new (array_member name.now (all_taken shortage.now)) }
 {
+    begin_array(out, name)?;
     push_one_taken(alloc, out, &shortage.first)?;
-    push_each_taken(alloc, out, &shortage.more)
+    push_each_taken(alloc, out, &shortage.more)?;
+    out.end_array()
 }
 
-/// Writes all that others have taken, where that keeps an instruction.
-fn push_all_of(alloc: Global, out: &mut Writer, cause: &Cause) -> Result<(), AllocError>
-    ensures { Adds result out.old out.new (all_taken_of cause.now) }
+/// Writes the member of all that others have taken, which is empty where nothing of that keeps an instruction.
+fn push_all_taken(alloc: Global, out: &mut Writer, cause: &Cause) -> Result<(), AllocError>
+    ensures { Adds result out.old out.new (all_taken_member cause.now) }
 {
     match cause {
-        Cause::Taken(shortage) => push_shortage(alloc, out, shortage),
-        Cause::First | Cause::Held(_) | Cause::Nothing => Ok(()),
+        Cause::Taken(shortage) => push_shortage(alloc, out, "all_taken", shortage),
+        Cause::First | Cause::Held(_) | Cause::Nothing => push_empty(out, "all_taken"),
     }
-}
-
-/// Writes the member of all that others have taken.
-#[tactic(auto, unfolding(c62_json_packets::specs::Member::array_member))]
-fn push_all_taken(alloc: Global, out: &mut Writer, cause: &Cause) -> Result<(), AllocError>
-    ensures { Adds result out.old out.new (array_member (codes "all_taken") (all_taken_of cause.now)) }
-{
-    begin_array(out, "all_taken")?;
-    push_all_of(alloc, out, cause)?;
-    out.end_array()
 }
 
 /// Writes where an instruction stands.

@@ -58,7 +58,7 @@ fn push_rows(
 
 /// Writes a member that is an empty array.
 #[tactic(auto, unfolding(c62_json_packets::specs::Member::array_member))]
-fn push_empty(out: &mut Writer, name: &str) -> Result<(), AllocError>
+pub(crate) fn push_empty(out: &mut Writer, name: &str) -> Result<(), AllocError>
     ensures { Adds result out.old out.new (array_member name.now []) }
 {
     begin_array(out, name)?;
