@@ -190,12 +190,18 @@ module _ (text : Text) (limit : ℕ) (issued : Issued) where
         by_breach path (stands_after text issued visit) last (over_of text issued visit) end at stop breaks leads.1,
       )
 
+  by_least : (path : List Visit) (one other : ℕ) → AreBy path one → AreBy path other → AreBy path (min one other)
+  by_least [] one other a b = tt
+  by_least (visit ∷ path) one other a b = (omega (arith, a.0, b.0), by_least path one other a.1 b.1)
+
   all_by : (path : List Visit) (position last : Position) (cycle end : ℕ) (stop : Stop) (cycles : ℕ)
       → Leads text limit issued position cycle path last end
       → Stops text limit issued last end stop cycles → AreBy path cycles
   all_by path position last cycle end stop cycles leads (inl breaks) =
       subst (AreBy path) (sym breaks.told)
+      (by_least path (breaks.cycle + 1) end
       (by_breach path position last cycle end breaks.cycle stop breaks.breaks leads)
+      (by_end path position last cycle end leads))
   all_by path position last cycle end stop cycles leads (inr ends) = subst (AreBy path) (sym ends.told)
       (by_end path position last cycle end leads)
 
