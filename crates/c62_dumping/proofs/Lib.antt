@@ -1,3 +1,4 @@
 pub mod Cuts
 pub mod Counted
 pub mod Limited
+pub mod Somewhere

@@ -23,11 +23,20 @@ limit_of (Reaching from ask) = limit_of ask
 limit_of (Document ask) = limit_of ask
 limit_of _ = None
 
+unfoldable pub was_ended : List ℕ
+was_ended = codes "run ended by its limit of "
+
+unfoldable pub of_that_moment : List ℕ
+of_that_moment = codes "): what is written is of that moment\n"
+
 -- `run ended by its limit of 1000 blocks (--blocks): what is written is of that moment`
+unfoldable pub line_of : (limit : ℕ) (unit : List ℕ) → List ℕ
+line_of limit unit = was_ended ++ decimal limit ++ codes " " ++ unit ++ codes " (--" ++ unit ++ of_that_moment
+
+-- nothing of what is no run
 abbrev pub limit_line : Option (ℕ × List ℕ) → List ℕ
 limit_line None = []
-limit_line (Some (limit, unit)) =
-    codes "run ended by its limit of " ++ decimal limit ++ codes " " ++ unit ++ codes " (--" ++ unit ++ codes "): what is written is of that moment\n"
+limit_line (Some (limit, unit)) = line_of limit unit
 
 -- what is said of a run that is asked for, if it ends by its limit: nothing where neither its answer nor memory is kept
 abbrev pub limit_note : (to_file : Bool) → Ask → List ℕ

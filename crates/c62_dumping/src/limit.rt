@@ -3,7 +3,7 @@
 ghost use Rattle.std.specs.Prelude.{◌≡◌, ◌++◌, IfOk, OnOk, option_map};
 ghost use Rattle.std.specs.List.{list_any};
 ghost use Rattle.c62_command.specs.CommandLine.{ask_of, ask_told};
-ghost use Rattle.c62_dumping.specs.Limit.{contains, ends_by_limit, is_kept, limit_line, limit_note, limit_of, limit_said};
+ghost use Rattle.c62_dumping.specs.Limit.{contains, ends_by_limit, is_kept, limit_line, limit_note, limit_of, limit_said, line_of, of_that_moment, was_ended};
 
 use crate::counts::settings_of;
 use c62_command::{Command, Request, Setting};
@@ -53,23 +53,35 @@ fn limit_of(request: &Request) -> Option<(u32, &'static str)>
     }
 }
 
-/// Adds what is said of a run that ended by this limit; nothing of what is no run.
-fn push_limit(out: &mut Vec<u8>, limit: Option<(u32, &str)>) -> Result<(), AllocError>
-    ensures { OnOk result (out.new.items ≡ out.old.items ++ limit_line (option_map (λ limit. (limit.0, limit.1.now)) limit)) }
+/// Adds that a run was ended.
+#[tactic(auto, unfolding(crate::specs::Limit::was_ended))]
+fn push_ended(out: &mut Vec<u8>) -> Result<(), AllocError>
+    ensures { OnOk result (out.new.items ≡ out.old.items ++ was_ended) }
 {
-    match limit {
-        None => Ok(()),
-        Some((limit, unit)) => {
-            let mut buffer = Buffer::new();
-            out.extend_from_slice(b"run ended by its limit of ")?;
-            out.extend_from_slice(buffer.format(limit).as_bytes())?;
-            out.extend_from_slice(b" ")?;
-            out.extend_from_slice(unit.as_bytes())?;
-            out.extend_from_slice(b" (--")?;
-            out.extend_from_slice(unit.as_bytes())?;
-            out.extend_from_slice(b"): what is written is of that moment\n")
-        }
-    }
+    out.extend_from_slice(b"run ended by its limit of ")
+}
+
+/// Adds of which moment is what is written.
+#[tactic(auto, unfolding(crate::specs::Limit::of_that_moment))]
+fn push_moment(out: &mut Vec<u8>) -> Result<(), AllocError>
+    ensures { OnOk result (out.new.items ≡ out.old.items ++ of_that_moment) }
+{
+    out.extend_from_slice(b"): what is written is of that moment\n")
+}
+
+/// Adds what is said of a run that ended by this limit.
+#[tactic(auto, unfolding(crate::specs::Limit::line_of))]
+fn push_line(out: &mut Vec<u8>, limit: u32, unit: &str) -> Result<(), AllocError>
+    ensures { OnOk result (out.new.items ≡ out.old.items ++ line_of limit unit.now) }
+{
+    let mut buffer = Buffer::new();
+    push_ended(out)?;
+    out.extend_from_slice(buffer.format(limit).as_bytes())?;
+    out.extend_from_slice(b" ")?;
+    out.extend_from_slice(unit.as_bytes())?;
+    out.extend_from_slice(b" (--")?;
+    out.extend_from_slice(unit.as_bytes())?;
+    push_moment(out)
 }
 
 /// What is said of what a request asks for, if that ends by its limit.
@@ -77,7 +89,9 @@ fn note_of(alloc: Global, request: &Request) -> Result<Vec<u8>, AllocError>
     ensures { IfOk result (λ note. note.items ≡ limit_line (limit_of (ask_of request.now))) }
 {
     let mut note = Vec::new(alloc);
-    push_limit(&mut note, limit_of(request))?;
+    if let Some((limit, unit)) = limit_of(request) {
+        push_line(&mut note, limit, unit)?;
+    }
     Ok(note)
 }
 

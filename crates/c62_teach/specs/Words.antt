@@ -95,10 +95,19 @@ first_bad [] = None
 first_bad (option ∷ []) = Some (option, [])
 first_bad (option ∷ value ∷ words) = if is_some (changed default option value) then first_bad words else Some (option, value)
 
+unfoldable pub takes_no : List ℕ
+takes_no = codes "error: lint takes no '"
+
+unfoldable pub unknown : (option : Text) → List ℕ
+unknown option = takes_no ++ option ++ codes "'\n\n"
+
+unfoldable pub ill_valued : (option values value : Text) → List ℕ
+ill_valued option values value = codes "error: '" ++ option ++ codes "' takes " ++ values ++ codes ", not '" ++ value ++ codes "'\n\n"
+
 -- what is wrong with an option that takes these values, or none, and its value
 abbrev pub wrong : (option value : Text) → Option Text → List ℕ
-wrong option value None = codes "error: lint takes no '" ++ option ++ codes "'\n\n"
-wrong option value (Some values) = codes "error: '" ++ option ++ codes "' takes " ++ values ++ codes ", not '" ++ value ++ codes "'\n\n"
+wrong option value None = unknown option
+wrong option value (Some values) = ill_valued option values value
 
 abbrev pub is_help : Text → Bool
 is_help word = bytes_eq word (codes "--help") || bytes_eq word (codes "-h")

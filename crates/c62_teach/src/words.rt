@@ -3,7 +3,7 @@
 ghost use Rattle.std.specs.Prelude.{◌≡◌, ◌≤◌, IfOk, IfSome, OnOk, ◌++◌, codes, map, option_map, string_bytes};
 ghost use Rattle.std.specs.List.{list_any};
 ghost use Rattle.std.specs.Str.{bytes_eq};
-ghost use Rattle.c62_teach.specs.Words.{as_json, asks_apart, asks_strict, is_json, other_word, other_words, behind_first, blame_of, changed, explains, first_bad, is_answered, is_explained, is_help, is_lint, is_of_memory, kind_of, lint_blame, linting_behind, linting_by, linting_of, most_by, most_of, is_strict, is_watched, names_apart, names_memory, plain_word, plain_words, makes_run, values_of, wrong};
+ghost use Rattle.c62_teach.specs.Words.{as_json, asks_apart, asks_strict, is_json, other_word, other_words, behind_first, blame_of, changed, explains, first_bad, ill_valued, is_answered, is_explained, is_help, is_lint, is_of_memory, kind_of, lint_blame, linting_behind, linting_by, linting_of, most_by, most_of, is_strict, is_watched, names_apart, names_memory, plain_word, plain_words, makes_run, takes_no, unknown, values_of, wrong};
 
 use c62_token::number::number;
 use std::alloc::{AllocError, Global};
@@ -212,22 +212,53 @@ fn values_of(option: &str) -> Option<&'static str>
 }
 
 /// The first option that asks for nothing, and its value, which is empty where none follows.
+#[tactic(auto, unfolding(crate::specs::Words::first_bad))]
 fn first_bad<'a>(words: &[&'a str]) -> Option<(&'a str, &'a str)>
     ensures { option_map (λ bad. (bad.0.now, bad.1.now)) result ≡ first_bad (map (λ word. word.now) words.now) }
 {
-    let mut rest = words;
-    loop {
-        match rest {
-            [] => return None,
-            [option] => return Some((*option, "")),
-            [option, value, behind @ ..] => {
-                if changed(DEFAULT, option, value).is_none() {
-                    return Some((*option, *value));
-                }
-                rest = behind;
+    match words {
+        [] => None,
+        [option] => Some((*option, "")),
+        [option, value, rest @ ..] => {
+            if changed(DEFAULT, option, value).is_some() {
+                first_bad(rest)
+            } else {
+                Some((*option, *value))
             }
         }
     }
+}
+
+/// Adds that `lint` takes something not.
+#[tactic(auto, unfolding(crate::specs::Words::takes_no))]
+fn push_takes_no(out: &mut Vec<u8>) -> Result<(), AllocError>
+    ensures { OnOk result (out.new.items ≡ out.old.items ++ takes_no) }
+{
+    out.extend_from_slice(b"error: lint takes no '")
+}
+
+/// Adds that `lint` takes no such option.
+#[tactic(auto, unfolding(crate::specs::Words::unknown))]
+fn push_unknown(out: &mut Vec<u8>, option: &str) -> Result<(), AllocError>
+    ensures { OnOk result (out.new.items ≡ out.old.items ++ unknown option.now) }
+{
+    push_takes_no(out)?;
+    out.extend_from_slice(option.as_bytes())?;
+    out.extend_from_slice(b"'\n\n")
+}
+
+/// Adds which values an option takes, and that this isn't one.
+#[tactic(auto, unfolding(crate::specs::Words::ill_valued))]
+fn push_values(out: &mut Vec<u8>, option: &str, values: &str, value: &str) -> Result<(), AllocError>
+    ensures { OnOk result (out.new.items ≡ out.old.items ++ ill_valued option.now values.now value.now) }
+{
+    out.extend_from_slice(b"error: '")?;
+    out.extend_from_slice(option.as_bytes())?;
+    out.extend_from_slice(b"' takes ")?;
+    out.extend_from_slice(values.as_bytes())?;
+    out.extend_from_slice(b", not '")?;
+    out.extend_from_slice(value.as_bytes())?;
+    out.extend_from_slice(b"'\n\n")
 }
 
 /// Adds what is wrong with an option of `lint` and its value.
@@ -235,20 +266,8 @@ fn push_wrong(out: &mut Vec<u8>, option: &str, value: &str) -> Result<(), AllocE
     ensures { OnOk result (out.new.items ≡ out.old.items ++ wrong option.now value.now (values_of option.now)) }
 {
     match values_of(option) {
-        None => {
-            out.extend_from_slice(b"error: lint takes no '")?;
-            out.extend_from_slice(option.as_bytes())?;
-            out.extend_from_slice(b"'\n\n")
-        }
-        Some(values) => {
-            out.extend_from_slice(b"error: '")?;
-            out.extend_from_slice(option.as_bytes())?;
-            out.extend_from_slice(b"' takes ")?;
-            out.extend_from_slice(values.as_bytes())?;
-            out.extend_from_slice(b", not '")?;
-            out.extend_from_slice(value.as_bytes())?;
-            out.extend_from_slice(b"'\n\n")
-        }
+        None => push_unknown(out, option),
+        Some(values) => push_values(out, option, values, value),
     }
 }
 
@@ -261,7 +280,7 @@ fn is_help(word: &str) -> bool
 
 /// Adds what is wrong with words of `lint` of which this option and value are the first that ask for nothing.
 fn push_blame(out: &mut Vec<u8>, bad: Option<(&str, &str)>) -> Result<(), AllocError>
-    ensures { OnOk result (out.new.items ≡ out.old.items ++ blame_of (option_map (λ bad. (bad.0.now, bad.1.now)) bad)) }
+    ensures { OnOk result (out.new.items ≡ out.old.items ++ blame_of (option_map (λ pair. (pair.0.now, pair.1.now)) bad.entry)) }
 {
     match bad {
         None => out.extend_from_slice(b"error: an option is given too often\n\n"),

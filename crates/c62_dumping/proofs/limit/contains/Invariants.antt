@@ -3,8 +3,8 @@ use Rattle.c62_dumping.specs.Limit.{contains}
 use Rattle.c62_dumping.proofs.limit.contains.Given as goal
 
 -- what begins somewhere from here on is in the whole text, and nothing else is
-abbrev pub invariant-loop-behind : goal.invariant-loop-behind
-invariant-loop-behind l = contains l.fn.bytes l.fn.text ≡ contains l.fn.bytes l.rest
+abbrev pub invariant-loop-rest : goal.invariant-loop-rest
+invariant-loop-rest l = contains l.fn.bytes l.fn.text ≡ contains l.fn.bytes l.rest
 
-abbrev pub decreases-loop-behind : goal.decreases-loop-behind
-decreases-loop-behind l = length l.rest
+abbrev pub decreases-loop-rest : goal.decreases-loop-rest
+decreases-loop-rest l = length l.rest
