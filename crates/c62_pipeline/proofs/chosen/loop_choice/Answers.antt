@@ -18,8 +18,8 @@ returns-then-is_counted_loop c =
     c.args.blocks.now c.args.block.now c.in-Some-Some.label.now c.args.number c.in-Some-Some.counter
     (region_read c.in_ok-region.region) c.requires labelled counts c.in_ok-region.ensures c.counted.ensures
 
-pub returns-then-not-is_counted_loop : goal.returns-then-not-is_counted_loop
-returns-then-not-is_counted_loop c =
+pub returns : goal.returns
+returns c =
     let labelled : c.args.block.now.label ≡ Some c.in-Some-Some.label.now
     = search (rules, c.label.ensures, c.in-Some-Some.is-1) in
     let counts : counter_of c.args.blocks.now c.args.number ≡ Some c.in-Some-Some.counter
@@ -30,5 +30,5 @@ returns-then-not-is_counted_loop c =
     c.args.block.now ≡ false
     = rw (labelled, counts) (ap is_counted_loop (sym c.in_ok-region.ensures) ∙ none) in
     uncounted_of (map trips_of c.args.promises.now.trips.items) c.args.promises.now.apart.items c.args.blocks.now
-    c.args.block.now c.args.number c.without.result c.requires c.without.ensures.number c.without.ensures.made
-    c.without.ensures.kept c.without.ensures.limit why
+    c.args.block.now c.args.number c.without-else-is_counted_loop.result c.requires c.without-else-is_counted_loop.ensures.number c.without-else-is_counted_loop.ensures.made
+    c.without-else-is_counted_loop.ensures.kept c.without-else-is_counted_loop.ensures.limit why
