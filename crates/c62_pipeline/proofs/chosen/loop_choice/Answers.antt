@@ -29,6 +29,7 @@ returns c =
     let why : counts_down c.args.block.now.label (counter_of c.args.blocks.now c.args.number) c.args.number
     c.args.block.now ≡ false
     = rw (labelled, counts) (ap is_counted_loop (sym c.in_ok-region.ensures) ∙ none) in
+    let out = c.without-else-is_counted_loop in
     uncounted_of (map trips_of c.args.promises.now.trips.items) c.args.promises.now.apart.items c.args.blocks.now
-    c.args.block.now c.args.number c.without-else-is_counted_loop.result c.requires c.without-else-is_counted_loop.ensures.number c.without-else-is_counted_loop.ensures.made
-    c.without-else-is_counted_loop.ensures.kept c.without-else-is_counted_loop.ensures.limit why
+    c.args.block.now c.args.number out.result c.requires out.ensures.number out.ensures.made out.ensures.kept
+    out.ensures.limit why
