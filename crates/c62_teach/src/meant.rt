@@ -76,11 +76,15 @@ fn meant_by(insn: &Insn, left: &[Placed]) -> Option<Placed> {
 
 /// The register that an instruction clears, where ZERO is read as it.
 fn zeroed(insn: &Insn) -> Option<Reg> {
-    match (insn.op(), insn.operands()) {
-        (Op::Sub, Operands::Three(first, second, to)) if first == second && second == to => Some(
-            to,
-        ),
-        (Op::Mvk, Operands::Constant(constant, to)) if constant == 0 => Some(to),
+    match insn.operands() {
+        Operands::Three(first, second, to) => {
+            let is_cleared = insn.op() == Op::Sub && first == second && second == to;
+            is_cleared.then_some(to)
+        }
+        Operands::Constant(constant, to) => {
+            let is_cleared = insn.op() == Op::Mvk && constant == 0;
+            is_cleared.then_some(to)
+        }
         _ => None,
     }
 }
@@ -96,6 +100,15 @@ fn is_other_zero(insn: &Insn, placed: &Placed) -> bool {
     }
 }
 
+/// How an instruction is like another, where it is.
+fn like_words(likeness: u8) -> &'static str {
+    match likeness {
+        3 => " has the same operation and writes the same register",
+        2 => " writes the same register",
+        _ => " has the same operation",
+    }
+}
+
 /// Adds that an instruction of packets may be meant by one of the text.
 fn push_meant(
     out: &mut Vec<u8>,
@@ -104,11 +117,7 @@ fn push_meant(
     entry: &SerialInsn,
     placed: &Placed,
 ) -> Result<(), AllocError> {
-    let like: &[u8] = match likeness(&entry.insn, &placed.insn) {
-        3 => b" has the same operation and writes the same register",
-        2 => b" writes the same register",
-        _ => b" has the same operation",
-    };
+    let like = like_words(likeness(&entry.insn, &placed.insn));
     let mut line = Buffer::new();
     let text = spelled(alloc, blocks, placed.insn, placed.unit)?;
     push_hint(
@@ -117,7 +126,7 @@ fn push_meant(
         &[
             b"listing line ",
             line.format(placed.line).as_bytes(),
-            like,
+            like.as_bytes(),
             b", and may be meant: ",
             text.as_bytes(),
         ],
