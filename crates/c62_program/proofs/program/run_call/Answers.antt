@@ -34,7 +34,7 @@ returns-then-is_plain-clause-ok g c =
     IfOk-weaker c.run_target.result _ _
     (λ status run. called c.args.isa _ _ c.args.call.now _ _ true _ _ status
     (rw c.deref.ensures.value at c.in-Ok.ensures.ok)
-    (rw (count, c.deref-2.ensures.value) at c.in_ok-kept.ensures.ok) (search rules) run)
+    (rw (count, c.deref-2.ensures.value, c.is_some.ensures) at c.in_ok-kept.ensures.ok) (search rules) run)
     (rw c.deref-then-is_plain.ensures.value at c.run_target.ensures.ok)
 
 pub returns-clause-ok : goal.returns-clause-ok
@@ -43,5 +43,5 @@ returns-clause-ok g c =
     IfOk-weaker c.run_dumping.result _ _
     (λ status run. called c.args.isa _ _ c.args.call.now _ _ false _ _ status
     (rw c.deref.ensures.value at c.in-Ok.ensures.ok)
-    (rw (count, c.deref-2.ensures.value) at c.in_ok-kept.ensures.ok) (search rules) run)
+    (rw (count, c.deref-2.ensures.value, c.is_some.ensures) at c.in_ok-kept.ensures.ok) (search rules) run)
     (rw c.deref-5.ensures.value at c.run_dumping.ensures.ok)

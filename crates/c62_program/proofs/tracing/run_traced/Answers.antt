@@ -22,4 +22,4 @@ returns g c =
     (streams (g.R.Read.remaining c.args.input.now) (g.W.Write.contents c.args.output.now)
     (g.E.Write.contents c.args.errors))
     _ _ _ some c.in-Ok.ensures (rw c.deref.ensures.value at c.in-Ok-call_of.ensures.ok)
-    (rw c.in-Ok-Some.field-0-is at c.run_call_traced.ensures)
+    c.run_call_traced.ensures
