@@ -116,10 +116,14 @@ abbrev pub blame_of : Option (Text × Text) → List ℕ
 blame_of None = codes "error: an option is given too often\n\n"
 blame_of (Some bad) = if is_help bad.0 then [] else wrong bad.0 bad.1 (values_of bad.0)
 
+-- the same of at most 1,000 words: of more an option is given too often
+abbrev pub bad_among : List Text → Option (Text × Text)
+bad_among words = if nat_le (length words) 1000 then first_bad words else None
+
 -- what is wrong with words of `lint` that want nothing: no text where they ask for help
 abbrev pub lint_blame : List Text → List ℕ
 lint_blame [] = []
-lint_blame (command ∷ words) = blame_of (first_bad (other_words words))
+lint_blame (command ∷ words) = blame_of (bad_among (other_words words))
 
 -- ---- `--explain`
 

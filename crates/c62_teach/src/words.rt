@@ -3,7 +3,7 @@
 ghost use Rattle.std.specs.Prelude.{◌≡◌, ◌≤◌, IfOk, IfSome, OnOk, ◌++◌, codes, map, option_map, string_bytes};
 ghost use Rattle.std.specs.List.{list_any};
 ghost use Rattle.std.specs.Str.{bytes_eq};
-ghost use Rattle.c62_teach.specs.Words.{as_json, asks_apart, asks_strict, is_json, other_word, other_words, behind_first, blame_of, changed, explains, first_bad, ill_valued, is_answered, is_explained, is_help, is_lint, is_of_memory, kind_of, lint_blame, linting_behind, linting_by, linting_of, most_by, most_of, is_strict, is_watched, names_apart, names_memory, plain_word, plain_words, makes_run, takes_no, unknown, values_of, wrong};
+ghost use Rattle.c62_teach.specs.Words.{as_json, asks_apart, asks_strict, bad_among, is_json, other_word, other_words, behind_first, blame_of, changed, explains, first_bad, ill_valued, is_answered, is_explained, is_help, is_lint, is_of_memory, kind_of, lint_blame, linting_behind, linting_by, linting_of, most_by, most_of, is_strict, is_watched, names_apart, names_memory, plain_word, plain_words, makes_run, takes_no, unknown, values_of, wrong};
 
 use c62_token::number::number;
 use std::alloc::{AllocError, Global};
@@ -229,6 +229,17 @@ fn first_bad<'a>(words: &[&'a str]) -> Option<(&'a str, &'a str)>
     }
 }
 
+/// The same of at most 1,000 words, as it goes over them by itself: of more an option is given too often in any case.
+fn bad_among<'a>(words: &[&'a str]) -> Option<(&'a str, &'a str)>
+    ensures { option_map (λ bad. (bad.0.now, bad.1.now)) result ≡ bad_among (map (λ word. word.now) words.now) }
+{
+    if words.len() <= 1000 {
+        first_bad(words)
+    } else {
+        None
+    }
+}
+
 /// Adds that `lint` takes something not.
 #[tactic(auto, unfolding(crate::specs::Words::takes_no))]
 fn push_takes_no(out: &mut Vec<u8>) -> Result<(), AllocError>
@@ -296,11 +307,11 @@ fn push_blame(out: &mut Vec<u8>, bad: Option<(&str, &str)>) -> Result<(), AllocE
 
 /// What is wrong with the words behind `lint`, which want nothing.
 fn blame_behind(alloc: Global, words: &[String]) -> Result<Vec<u8>, AllocError>
-    ensures { IfOk result (λ blame. blame.items ≡ blame_of (first_bad (other_words (map string_bytes words.now)))) }
+    ensures { IfOk result (λ blame. blame.items ≡ blame_of (bad_among (other_words (map string_bytes words.now)))) }
 {
     let others = other_words(alloc, words)?;
     let mut blame = Vec::new(alloc);
-    push_blame(&mut blame, first_bad(&others))?;
+    push_blame(&mut blame, bad_among(&others))?;
     Ok(blame)
 }
 
