@@ -23,6 +23,7 @@ use Rattle.c62_listing_reader.proofs.UntoldLemmas.{are_allowed}
 use Rattle.c62_adopt_cut.specs.Flight.{cycles_lacking}
 use Rattle.c62_adopt_cut.specs.Text.{Cut, most_bytes, read_below, text_cut}
 use Rattle.c62_adopt_spell.specs.Laws.{stays}
+use Rattle.c62_adopt_spell.specs.Local.{mark_of, none_above}
 use Rattle.c62_adopt_spell.specs.Text.{spelled_text}
 use Rattle.c62_adopt_spell.proofs.SpellLemmas.{stay as stay_so}
 use Rattle.c62_adopt_code.specs.Code.{code_of, plain_code}
@@ -122,7 +123,8 @@ spelled_by : (isa : InstructionSet) (lines : List (List ℕ)) → list_all are_a
     → list_all (stays isa) lines ≡ true
     → spelled_text isa (text_of lines) ≡ text_of lines
 unfolding spelled_text
-spelled_by isa lines allowed stay = rw (lines_back lines allowed, stay_so isa lines stay) refl
+spelled_by isa lines allowed stay =
+    rw (lines_back lines allowed, stay_so isa lines (mark_of (text_of lines)) none_above stay) refl
 
 plain_by : (isa : InstructionSet) (lines : List (List ℕ)) → list_all are_allowed lines ≡ true
     → list_all is_plain lines ≡ true

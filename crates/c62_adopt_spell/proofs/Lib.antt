@@ -1,4 +1,5 @@
 mod Bits
 mod BracketLemmas
+mod LocalLemmas
 mod SpacedLemmas
 pub mod SpellLemmas

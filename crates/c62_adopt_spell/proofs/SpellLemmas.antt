@@ -1,21 +1,21 @@
 -- Lines that stay as they are: those that say something, and those without comments that can be read.
-use Rattle.std.proofs.Common.{◌≡◌, ◌≤◌, ◌∙◌, ap, subst, sym, refl, ℕ, List, [], ◌∷◌, ◌++◌, length, Bool, true, false}
+use Rattle.std.proofs.Common.{◌≡◌, ◌∙◌, ap, sym, refl, ℕ, List, [], ◌∷◌, ◌++◌, length, Bool, true, false}
 use Rattle.std.proofs.Common.{Some, append_assoc, append-nil, map, inl, inr, eqb, arith}
 use Rattle.std.specs.Prelude.{codes, not, nat_le, nat_lt, if◌then◌else◌, ◌&&◌, ◌||◌}
 use Rattle.std.specs.List.{list_all, list_any}
 use Rattle.std.proofs.lemmas.Bool.{and_parts, cases_Bool}
 use Rattle.std.proofs.lemmas.Bool.Decides.{nat_tests}
-use Rattle.c62_token.specs.Token.{begins, is_allowed}
+use Rattle.c62_token.specs.Token.{is_allowed, tokens}
 use Rattle.c62_adopt_line.specs.Line.{line_says}
-use Rattle.c62_adopt_line.proofs.Comments.{comment_nothing}
 use Rattle.c62_adopt_line.proofs.ListedLines.{empty_reads}
 use Rattle.c62_adopt_spell.specs.declared.comment.Place.{Place}
 use Rattle.c62_adopt_spell.specs.declared.comment.Place.TheVariants.{Code, Remark}
 use Rattle.c62_adopt_spell.specs.Comment.{blanked, is_remark, is_within, place_at_end, uncommented}
 use Rattle.c62_adopt_spell.specs.Laws.{StayAsTheyAre, stays}
 use Rattle.c62_adopt_spell.specs.declared.names.Setting.{Setting}
-use Rattle.c62_adopt_spell.specs.Line.{IsItself, IsPlain, is_readable, last_byte, names_below, names_plain, reads}
-use Rattle.c62_adopt_spell.specs.Line.{speaks, spelled, spelled_plain, without_end}
+use Rattle.c62_adopt_spell.specs.Line.{IsItself, IsPlain, counts_below, is_readable, last_byte, names_below, names_plain, reads}
+use Rattle.c62_adopt_spell.specs.Local.{counted, local_of}
+use Rattle.c62_adopt_spell.specs.Line.{speaks, spelled, spelled_plain, with_locals, without_end}
 use Rattle.c62_adopt_spell.specs.Text.{text_of}
 use Rattle.c62_line.specs.declared.limits.TheConstants.{MOST_LINE}
 use Rattle.c62_op.specs.declared.set.InstructionSet.{InstructionSet}
@@ -33,9 +33,6 @@ short_so line short = grind (arith, nat_tests)
 long_so : (line : List ℕ) → nat_le (length line) MOST_LINE ≡ false → nat_lt MOST_LINE (length line) ≡ true
 long_so line long = grind (arith, nat_tests)
 
-few_so : (line : List ℕ) → nat_le (length line) MOST_LINE ≡ true → length line ≤ MOST_LINE
-few_so line short = grind (arith, nat_tests)
-
 unreadable_silent : (isa : InstructionSet) (line : List ℕ) → is_readable line ≡ false
     → speaks (line_says isa line) ≡ false
 unfolding line_says
@@ -44,50 +41,84 @@ unreadable_silent isa line is = elim (cases_Bool (list_all is_allowed line)) [
   | inr other ↦ rw other refl
 ]
 
-pub remark_so : (isa : InstructionSet) (names : List Setting) (line : List ℕ) → is_readable line ≡ true
-    → is_remark line ≡ true
-    → spelled isa names line ≡ line
-unfolding spelled
-remark_so isa names line readable is = rw (readable, is) refl
+-- below a text's settings and local labels
+module _ (isa : InstructionSet) (names : List Setting) (mark counts : List ℕ) (line : List ℕ) where
+  pub unreadable_so : is_readable line ≡ false → spelled isa names mark counts line ≡ without_end line
+  unfolding spelled
+  unreadable_so is = rw is refl
 
-pub remark_sets : (isa : InstructionSet) (names : List Setting) (line : List ℕ) → is_readable line ≡ true
-    → is_remark line ≡ true
-    → names_below isa names line ≡ names
-unfolding names_below
-remark_sets isa names line readable is = rw (readable, is) refl
+  pub unreadable_sets : is_readable line ≡ false → names_below isa names mark counts line ≡ names
+  unfolding names_below
+  unreadable_sets is = rw is refl
 
-pub itself_so : (isa : InstructionSet) (names : List Setting) (line : List ℕ) → IsItself isa line
-    → spelled isa names line ≡ line
-unfolding IsItself
-itself_so isa names line is = (is names).0
+  pub remark_so : is_readable line ≡ true → is_remark line ≡ true → spelled isa names mark counts line ≡ line
+  unfolding spelled
+  remark_so readable is = rw (readable, is) refl
 
-pub itself_sets : (isa : InstructionSet) (names : List Setting) (line : List ℕ) → IsItself isa line
-    → names_below isa names line ≡ names
-unfolding IsItself
-itself_sets isa names line is = (is names).1
+  pub remark_sets : is_readable line ≡ true → is_remark line ≡ true → names_below isa names mark counts line ≡ names
+  unfolding names_below
+  remark_sets readable is = rw (readable, is) refl
 
-pub plain_so : (isa : InstructionSet) (names : List Setting) (line : List ℕ) → IsPlain isa line
-    → spelled isa names line ≡ spelled_plain isa names (blanked Code line)
-unfolding IsPlain
-plain_so isa names line is = (is names).0
+  pub itself_so : IsItself isa line → spelled isa names mark counts line ≡ line
+  unfolding IsItself
+  itself_so is = (is names mark counts).0
 
-pub plain_sets : (isa : InstructionSet) (names : List Setting) (line : List ℕ) → IsPlain isa line
-    → names_below isa names line ≡ names_plain isa names (blanked Code line)
-unfolding IsPlain
-plain_sets isa names line is = (is names).1
+  pub itself_sets : IsItself isa line → names_below isa names mark counts line ≡ names
+  unfolding IsItself
+  itself_sets is = (is names mark counts).1
+
+  pub plain_so : IsPlain isa line
+      → spelled isa names mark counts line ≡ spelled_plain isa names (with_locals isa mark counts (blanked Code line))
+  unfolding IsPlain
+  plain_so is = (is names mark counts).0
+
+  pub plain_sets : IsPlain isa line
+      → names_below isa names mark counts line ≡ names_plain isa names (with_locals isa mark counts (blanked Code line))
+  unfolding IsPlain
+  plain_sets is = (is names mark counts).1
+
+-- local labels below a line
+module _ (isa : InstructionSet) (counts : List ℕ) (line : List ℕ) where
+  pub unreadable_counts : is_readable line ≡ false
+      → counts_below isa counts line ≡ counted counts (local_of (tokens (blanked Code line)))
+  unfolding counts_below
+  unreadable_counts is = rw is refl
+
+  pub remark_counts : is_readable line ≡ true → is_remark line ≡ true → counts_below isa counts line ≡ counts
+  unfolding counts_below
+  remark_counts readable is = rw (readable, is) refl
+
+  pub saying_counts : is_readable line ≡ true → is_remark line ≡ false → true ≡ speaks (line_says isa line)
+      → counts_below isa counts line ≡ counts
+  unfolding counts_below
+  saying_counts readable plain is = rw (readable, plain, ← is) refl
+
+  pub silent_counts : is_readable line ≡ true → is_remark line ≡ false → false ≡ speaks (line_says isa line)
+      → counts_below isa counts line ≡ counted counts (local_of (tokens (blanked Code line)))
+  unfolding counts_below
+  silent_counts readable plain is = rw (readable, plain, ← is) refl
 
 -- what says something
 says_so : (isa : InstructionSet) (line : List ℕ) → is_readable line ≡ true → speaks (line_says isa line) ≡ true
     → IsItself isa line
 unfolding spelled names_below IsItself
-says_so isa line readable is names = elim (cases_Bool (is_remark line)) [
+says_so isa line readable is names mark counts = elim (cases_Bool (is_remark line)) [
   | inl remark ↦ (rw (readable, remark) refl, rw (readable, remark) refl)
   | inr other ↦ (rw (readable, other, is) refl, rw (readable, other, is) refl)
 ]
 
+-- what can be read has no local labels
+plain_read : (isa : InstructionSet) (mark counts : List ℕ) (line : List ℕ) → reads (line_says isa line) ≡ true
+    → with_locals isa mark counts line ≡ line
+unfolding with_locals
+plain_read isa mark counts line read = rw read refl
+
 empty_so : (isa : InstructionSet) → IsItself isa []
 unfolding spelled names_below IsItself
-empty_so isa names = (rw (empty_reads isa) refl, rw (empty_reads isa) (append-nil names))
+empty_so isa names mark counts =
+    let read : reads (line_says isa []) ≡ true = rw (empty_reads isa) refl in
+    let plain = plain_read isa mark counts [] read in
+    (rw (empty_reads isa, plain, read) refl, rw (empty_reads isa, plain, read) (append-nil names))
 
 pub stays_so : (isa : InstructionSet) (line : List ℕ) → stays isa line ≡ true → IsItself isa line
 stays_so isa [] is = empty_so isa
@@ -97,12 +128,16 @@ stays_so isa (b ∷ line) is = elim (cases_Bool (is_readable (b ∷ line))) [
 ]
 
 pub stay : (isa : InstructionSet) (lines : List (List ℕ)) → StayAsTheyAre isa lines
-stay isa [] all = refl
-stay isa (line ∷ lines) all =
+stay isa [] mark counts all = refl
+stay isa (line ∷ lines) mark counts all =
     let parts = and_parts (stays isa line) (list_all (stays isa) lines) all in
     let itself = stays_so isa line parts.0 in
-    rw (itself_so isa [] line itself, itself_sets isa [] line itself)
-    (ap (λ (others : List (List ℕ)). line ∷ others) (stay isa lines parts.1))
+    rw (
+      itself_so isa [] mark (counts_below isa counts line) line itself,
+      itself_sets isa [] mark (counts_below isa counts line) line itself,
+    )
+    (ap (λ (others : List (List ℕ)). line ∷ others)
+    (stay isa lines mark (counts_below isa counts line) parts.1))
 
 -- ---- what has no comment
 
@@ -141,42 +176,14 @@ read_so : (isa : InstructionSet) (line : List ℕ) → is_readable line ≡ true
     → reads (line_says isa line) ≡ true
     → IsKept Code line → IsItself isa line
 unfolding spelled names_below IsItself
-read_so isa line readable plain read kept names = elim (cases_Bool (speaks (line_says isa line))) [
+read_so isa line readable plain read kept names mark counts = elim (cases_Bool (speaks (line_says isa line))) [
   | inl says ↦ (rw (readable, plain, says) refl, rw (readable, plain, says) refl)
   | inr silent ↦ (
-    rw (readable, plain, silent, kept_so line kept, read) refl,
-    rw (readable, plain, silent, kept_so line kept, read)
+    rw (readable, plain, silent, kept_so line kept, plain_read isa mark counts line read, read) refl,
+    rw (readable, plain, silent, kept_so line kept, plain_read isa mark counts line read, read)
         (append-nil names),
   )
 ]
-
-semicolon_so : (isa : InstructionSet) (line : List ℕ) → is_readable (59 ∷ line) ≡ true → IsItself isa (59 ∷ line)
-semicolon_so isa line readable =
-    let parts = and_parts (list_all is_allowed (59 ∷ line)) (nat_le (length (59 ∷ line)) MOST_LINE) readable in
-    read_so isa (59 ∷ line) readable refl
-    (rw (comment_nothing isa [] line (parts.0, few_so (59 ∷ line) parts.1), empty_reads isa) refl)
-    (record { bytes = behind_byte 59 Remark line (remark_kept line); over = (remark_kept line).over })
-
-pub empty_line : (isa : InstructionSet) (line : List ℕ) → length line ≡ 0 → IsItself isa line
-empty_line isa [] none = empty_so isa
-empty_line isa (b ∷ line) none = absurd (omega (arith, none))
-
-pub semicolon_line : (isa : InstructionSet) (line : List ℕ) → is_readable line ≡ true
-    → begins (λ b. eqb b 59) line ≡ true → IsItself isa line
-semicolon_line isa [] readable is = absurd cc
-semicolon_line isa (b ∷ line) readable is =
-    let first : b ≡ 59 = grind (arith, nat_tests) in
-    subst (λ (c : ℕ). IsItself isa (c ∷ line)) (sym first) (semicolon_so isa line (rw first at readable))
-
-pub unreadable_so : (isa : InstructionSet) (names : List Setting) (line : List ℕ) → is_readable line ≡ false
-    → spelled isa names line ≡ without_end line
-unfolding spelled
-unreadable_so isa names line is = rw is refl
-
-pub unreadable_sets : (isa : InstructionSet) (names : List Setting) (line : List ℕ) → is_readable line ≡ false
-    → names_below isa names line ≡ names
-unfolding names_below
-unreadable_sets isa names line is = rw is refl
 
 -- the last byte is apart from those before it
 end_so : (front : List ℕ) (b : ℕ) → without_end (front ++ b ∷ []) ≡ front ++ last_byte b ∷ []
@@ -201,10 +208,10 @@ module _ (isa : InstructionSet) (line : List ℕ) (readable : is_readable line �
   -- a comment that doesn't end
   pub open_so : false ≡ speaks (line_says isa line) → is_within (place_at_end Code line) ≡ true → IsItself isa line
   unfolding spelled names_below IsItself
-  open_so silent within names =
+  open_so silent within names mark counts =
       (rw (readable, plain, ← silent, within) refl, rw (readable, plain, ← silent, within) refl)
 
   pub ended_so : false ≡ speaks (line_says isa line) → is_within (place_at_end Code line) ≡ false → IsPlain isa line
   unfolding spelled names_below IsPlain
-  ended_so silent within names =
+  ended_so silent within names mark counts =
       (rw (readable, plain, ← silent, within) refl, rw (readable, plain, ← silent, within) refl)

@@ -5,6 +5,7 @@ pub mod Names
 pub mod Sum
 pub mod Bracket
 pub mod Statement
+pub mod Local
 pub mod Line
 pub mod Text
 pub mod Laws

@@ -13,6 +13,7 @@ use Rattle.c62_adopt_line.specs.Plain.{undotted}
 use Rattle.c62_adopt_spell.specs.declared.comment.Place.TheVariants.{Code}
 use Rattle.c62_adopt_spell.specs.declared.names.Setting.{Setting}
 use Rattle.c62_adopt_spell.specs.Comment.{blanked, is_remark, uncommented}
+use Rattle.c62_adopt_spell.specs.Local.{counted, local_of, named_locals}
 use Rattle.c62_adopt_spell.specs.Names.{setting_of}
 use Rattle.c62_adopt_spell.specs.Operation.{is_instruction}
 use Rattle.c62_adopt_spell.specs.Statement.{has_pair, stated}
@@ -86,13 +87,17 @@ names_plain isa names line = names ++ option_to_list (set_by isa names line)
 
 -- ---- a line
 
-abbrev pub plain_or : InstructionSet → List Setting → List ℕ → Option (List ℕ) → List ℕ
-plain_or isa names line (Some plain) = spelled_plain isa names plain
-plain_or isa names line None = line
+-- where so many local labels of each number stand above or in it: what can't be read as it stands has their names
+unfoldable pub with_locals : InstructionSet → List ℕ → List ℕ → List ℕ → List ℕ
+with_locals isa mark counts line = if reads (line_says isa line) then line else named_locals mark counts line
 
-abbrev pub names_or : InstructionSet → List Setting → Option (List ℕ) → List Setting
-names_or isa names (Some plain) = names_plain isa names plain
-names_or isa names None = names
+abbrev pub plain_or : InstructionSet → List Setting → List ℕ → List ℕ → List ℕ → Option (List ℕ) → List ℕ
+plain_or isa names mark counts line (Some plain) = spelled_plain isa names (with_locals isa mark counts plain)
+plain_or isa names mark counts line None = line
+
+abbrev pub names_or : InstructionSet → List Setting → List ℕ → List ℕ → Option (List ℕ) → List Setting
+names_or isa names mark counts (Some plain) = names_plain isa names (with_locals isa mark counts plain)
+names_or isa names mark counts None = names
 
 -- A carriage return that stands last would be of the line's end once a line feed stands behind it. So another byte stands for it that isn't allowed.
 abbrev pub last_byte : ℕ → ℕ
@@ -104,21 +109,32 @@ without_end (b ∷ []) = last_byte b ∷ []
 without_end (b ∷ c ∷ line) = b ∷ without_end (c ∷ line)
 
 -- a line that says something by itself stands as it is, and so do comments and a line whose comment doesn't end
-unfoldable pub spelled : InstructionSet → List Setting → List ℕ → List ℕ
-spelled isa names line =
+unfoldable pub spelled : InstructionSet → List Setting → List ℕ → List ℕ → List ℕ → List ℕ
+spelled isa names mark counts line =
     if not (is_readable line) then without_end line
-    else (if is_remark line || speaks (line_says isa line) then line else plain_or isa names line (uncommented line))
+    else (if is_remark line || speaks (line_says isa line) then line else plain_or isa names mark counts line (uncommented line))
 
 -- the settings below a line
-unfoldable pub names_below : InstructionSet → List Setting → List ℕ → List Setting
-names_below isa names line =
+unfoldable pub names_below : InstructionSet → List Setting → List ℕ → List ℕ → List ℕ → List Setting
+names_below isa names mark counts line =
     if not (is_readable line) then names
-    else (if is_remark line || speaks (line_says isa line) then names else names_or isa names (uncommented line))
+    else (if is_remark line || speaks (line_says isa line) then names else names_or isa names mark counts (uncommented line))
+
+-- how many local labels of each number stand above or in a line; one that says something by itself has none
+unfoldable pub counts_below : InstructionSet → List ℕ → List ℕ → List ℕ
+counts_below isa counts line =
+    if is_readable line && (is_remark line || speaks (line_says isa line)) then counts
+    else counted counts (local_of (tokens (blanked Code line)))
 
 -- the line stands for itself, and sets nothing
 unfoldable pub IsItself : InstructionSet → List ℕ → Type 0
-IsItself isa line = (names : List Setting) → (spelled isa names line ≡ line) × (names_below isa names line ≡ names)
+IsItself isa line =
+    (names : List Setting) (mark counts : List ℕ)
+    → (spelled isa names mark counts line ≡ line) × (names_below isa names mark counts line ≡ names)
 
 -- it is what it is without its comments
 unfoldable pub IsPlain : InstructionSet → List ℕ → Type 0
-IsPlain isa line = (names : List Setting) → (spelled isa names line ≡ spelled_plain isa names (blanked Code line)) × (names_below isa names line ≡ names_plain isa names (blanked Code line))
+IsPlain isa line =
+    (names : List Setting) (mark counts : List ℕ)
+    → (spelled isa names mark counts line ≡ spelled_plain isa names (with_locals isa mark counts (blanked Code line)))
+    × (names_below isa names mark counts line ≡ names_plain isa names (with_locals isa mark counts (blanked Code line)))

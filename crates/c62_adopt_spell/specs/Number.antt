@@ -1,15 +1,25 @@
 -- Numbers and registers as assemblers spell them (docs/ADOPT.md, "Other spellings").
-use Rattle.std.specs.Prelude.{ℕ, ℤ, pos, ◌-ℤ◌, ◌==◌, ◌&&◌, ◌||◌, nat_le, int_le, if◌then◌else◌, List, [], ◌∷◌, length, codes, Option, Some, None, option_map}
+use Rattle.std.specs.Prelude.{ℕ, ℤ, pos, ◌+ℤ◌, ◌-ℤ◌, Bool, true, false, ◌==◌, ◌&&◌, ◌||◌, nat_le, int_le, if◌then◌else◌, List, [], ◌∷◌, length, map, codes, Option, Some, None, option_and_then, option_map}
 use Rattle.std.specs.Option.{option_or}
 use Rattle.std.specs.Str.Parse.{digits_value}
 use Rattle.c62_token.specs.Kind.{Word}
-use Rattle.c62_token.specs.Number.{are_digits, number_of, spells}
+use Rattle.c62_token.specs.Number.{are_digits, in_range, number_of, spells}
 
--- `0X` and as many digits as behind `0x`
+-- ---- sums
+
+-- a sum or a difference, where it is a number
+abbrev pub total : Bool → ℤ → ℤ → Option ℤ
+total true m k = in_range (m -ℤ k)
+total false m k = in_range (m +ℤ k)
+
+-- ---- numbers
+
+-- `0X` in place of `0x`
+abbrev pub small_x : ℕ → ℕ
+small_x b = if b == 88 then 120 else b
+
 abbrev pub capital_of : Word → Option ℤ
-capital_of (d ∷ x ∷ digits) =
-    if d == 48 && x == 88 && nat_le (length digits) 8 then number_of (48 ∷ 120 ∷ digits) else None
-capital_of _ = None
+capital_of word = if nat_le (length word) 11 then number_of (map small_x word) else None
 
 -- `0b` and one to 32 digits
 abbrev pub bits_of : Word → Option ℤ
@@ -21,9 +31,16 @@ abbrev pub binary_of : Word → Option ℤ
 binary_of (d ∷ b ∷ digits) = if d == 48 && (b == 98 || b == 66) then bits_of digits else None
 binary_of _ = None
 
+-- the same behind one sign or none
+abbrev pub signed_binary_of : Word → Option ℤ
+signed_binary_of [] = None
+signed_binary_of (b ∷ word) =
+    if b == 45 then option_and_then (total true (pos 0)) (binary_of word)
+    else (if b == 43 then binary_of word else binary_of (b ∷ word))
+
 -- the number that a word says
 abbrev pub written_of : Word → Option ℤ
-written_of word = option_or (number_of word) (option_or (capital_of word) (binary_of word))
+written_of word = option_or (number_of word) (option_or (capital_of word) (signed_binary_of word))
 
 -- a word of 32 bits as a number with a sign
 abbrev pub with_sign : ℤ → ℤ

@@ -5,6 +5,7 @@ mod bracket;
 mod comment;
 pub mod laws;
 mod line;
+mod local;
 mod names;
 mod number;
 mod operation;
@@ -12,4 +13,5 @@ mod statement;
 mod sum;
 mod text;
 
+pub use local::{behind_local, reference_of};
 pub use text::spelled_text;

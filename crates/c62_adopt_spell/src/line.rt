@@ -10,9 +10,11 @@ ghost use Rattle.c62_adopt_line.specs.Line.{behind_bars, line_says, line_written
 ghost use Rattle.c62_adopt_spell.specs.declared.comment.Place.TheVariants.{Code};
 ghost use Rattle.c62_adopt_spell.specs.Comment.{blanked, is_remark};
 ghost use Rattle.c62_adopt_spell.specs.Statement.{stated};
-ghost use Rattle.c62_adopt_spell.specs.Line.{column_label, labelled, with_label, with_bars, respelled, is_readable, is_nothing, speaks, reads, if_better, set_by, spelled_plain, names_plain, last_byte, without_end, spelled, names_below, IsItself, IsPlain};
+ghost use Rattle.c62_adopt_spell.specs.Line.{column_label, labelled, with_label, with_bars, respelled, is_readable, is_nothing, speaks, reads, if_better, set_by, spelled_plain, names_plain, last_byte, without_end, spelled, names_below, counts_below, with_locals, IsItself, IsPlain};
+ghost use Rattle.c62_adopt_spell.specs.Local.{counted, local_of, named_locals};
 
 use crate::comment::{all_end, is_remark, push_blanked};
+use crate::local::Locals;
 use crate::names::{Setting, setting_of};
 use crate::operation::begins_instruction;
 use crate::statement::{Words, has_pair, push_stated};
@@ -20,7 +22,7 @@ use c62_adopt_line::{LineFault, Written, behind_bars, behind_colon, label_of, re
 use c62_line::{Label, MOST_LINE, What};
 use c62_op::InstructionSet;
 use c62_token::number::is_label;
-use c62_token::{Tokens, begins_with, scan_line};
+use c62_token::{Tokens, scan_line};
 use std::alloc::{AllocError, Global};
 
 fn is_letter(b: u8) -> bool
@@ -197,6 +199,10 @@ pub(crate) struct Spare {
     read: Vec<u8>,
     /// For a line without its comments.
     blanked: Vec<u8>,
+    /// For one in which local labels have names.
+    named: Vec<u8>,
+    /// For a word of it.
+    word: Vec<u8>,
     /// For a line in another spelling.
     other: Vec<u8>,
     words: Words,
@@ -207,42 +213,64 @@ impl Spare {
         Spare {
             read: Vec::new(alloc),
             blanked: Vec::new(alloc),
+            named: Vec::new(alloc),
+            word: Vec::new(alloc),
             other: Vec::new(alloc),
             words: Words::new(alloc),
         }
     }
 
-    /// Appends what stands for a line whose comments end, and of which some can't be read or says nothing. What it sets goes to the settings.
+    /// Counts the local label of a line, which is left without its comments.
+    fn count(&mut self, locals: &mut Locals, line: &[u8]) -> Result<(), AllocError>
+        ensures counts { OnOk result (locals.new.counts.items ≡ counted locals.old.counts.items (local_of (tokens (blanked Code line.now)))) }
+        ensures mark { locals.new.mark ≡ locals.old.mark }
+        ensures blanked { OnOk result (self.new.blanked.items ≡ blanked Code line.now) }
+        ensures same { OnOk result (length self.new.blanked.items ≡ length line.now) }
+    {
+        self.blanked.clear();
+        push_blanked(&mut self.blanked, line)?;
+        locals.count(&self.blanked);
+        Ok(())
+    }
+
+    /// Names the local labels of the line without its comments, where it can't be read as it stands.
+    #[tactic(auto, unfolding(crate::specs::Line::with_locals))]
+    fn name_locals(&mut self, isa: InstructionSet, locals: &Locals) -> Result<(), AllocError>
+        requires { length self.old.blanked.items ≤ MOST_LINE }
+        ensures named { OnOk result (self.new.named.items ≡ with_locals isa locals.now.mark.items locals.now.counts.items self.old.blanked.items) }
+        ensures short { OnOk result (length self.new.named.items ≤ MOST_LINE) }
+    {
+        if !read(isa, &mut self.read, &self.blanked)?.0 {
+            return locals.name(&mut self.named, &mut self.word, &self.blanked);
+        }
+        self.named.clear();
+        self.named.extend_from_slice(&self.blanked)
+    }
+
+    /// Appends what stands for a line that was counted, whose comments end, and of which some can't be read or says nothing. What it sets goes to the
+    /// settings.
     fn push_plain(
         &mut self,
         isa: InstructionSet,
         text: &mut Vec<u8>,
         names: &mut Vec<Setting>,
-        line: &[u8],
+        locals: &Locals,
     ) -> Result<(), AllocError>
-        requires { length line.now ≤ MOST_LINE }
-        ensures text { OnOk result (text.new.items ≡ text.old.items ++ spelled_plain isa names.old.items (blanked Code line.now)) }
-        ensures names { OnOk result (names.new.items ≡ names_plain isa names.old.items (blanked Code line.now)) }
+        requires { length self.old.blanked.items ≤ MOST_LINE }
+        ensures text { OnOk result (text.new.items ≡ text.old.items ++ spelled_plain isa names.old.items (with_locals isa locals.now.mark.items locals.now.counts.items self.old.blanked.items)) }
+        ensures names { OnOk result (names.new.items ≡ names_plain isa names.old.items (with_locals isa locals.now.mark.items locals.now.counts.items self.old.blanked.items)) }
     {
-        self.blanked.clear();
-        push_blanked(&mut self.blanked, line)?;
-        let reading = read(isa, &mut self.read, &self.blanked)?.0;
-        match set_by(isa, reading, names, &self.blanked) {
+        self.name_locals(isa, locals)?;
+        let reading = read(isa, &mut self.read, &self.named)?.0;
+        match set_by(isa, reading, names, &self.named) {
             Some(setting) => {
                 names.push(setting)?;
                 Ok(())
             }
             None => {
                 self.other.clear();
-                push_respelled(isa, &mut self.other, &mut self.words, names, &self.blanked)?;
-                push_better(
-                    isa,
-                    text,
-                    &mut self.read,
-                    reading,
-                    &self.blanked,
-                    &self.other,
-                )
+                push_respelled(isa, &mut self.other, &mut self.words, names, &self.named)?;
+                push_better(isa, text, &mut self.read, reading, &self.named, &self.other)
             }
         }
     }
@@ -276,61 +304,51 @@ fn push_unreadable(text: &mut Vec<u8>, line: &[u8]) -> Result<(), AllocError>
     }
 }
 
-/// Whether a line that can be read has no bytes, or a `;` first.
-#[tactic(auto, using(crate::proofs::SpellLemmas::empty_line, crate::proofs::SpellLemmas::semicolon_line))]
-fn is_nothing_written(isa: InstructionSet, line: &[u8]) -> bool
-    requires { IsTrue (is_readable line.now) }
-    ensures { IsTrue result → IsItself isa line.now }
-{
-    if line.is_empty() {
-        return true;
-    }
-    begins_with(b';', line)
-}
-
-/// Whether a line stands as it is, of which is known whether it can be read and whether it says something.
-#[tactic(auto, using(crate::proofs::SpellLemmas::speaks_so, crate::proofs::SpellLemmas::reads_so, crate::proofs::SpellLemmas::open_so, crate::proofs::SpellLemmas::ended_so))]
-fn stands(isa: InstructionSet, reading: bool, speaking: bool, line: &[u8]) -> bool
+/// Whether a line that says nothing stands as it is, of which is known whether it can be read.
+#[tactic(auto, using(crate::proofs::SpellLemmas::reads_so, crate::proofs::SpellLemmas::open_so, crate::proofs::SpellLemmas::ended_so))]
+fn stands(isa: InstructionSet, reading: bool, line: &[u8]) -> bool
     requires readable { IsTrue (is_readable line.now) }
     requires remark { is_remark line.now ≡ false }
     requires reading { reading ≡ reads (line_says isa line.now) }
-    requires speaking { speaking ≡ speaks (line_says isa line.now) }
+    requires silent { false ≡ speaks (line_says isa line.now) }
     ensures itself { result ≡ true → IsItself isa line.now }
     ensures plain { result ≡ false → IsPlain isa line.now }
 {
-    if speaking {
-        return true;
-    }
     if reading && !has_slash(line) {
         return true;
     }
     !all_end(line)
 }
 
-/// Appends the line that stands for this one below these settings, to which what it sets goes.
-#[tactic(auto, using(crate::proofs::SpellLemmas::unreadable_so, crate::proofs::SpellLemmas::unreadable_sets, crate::proofs::SpellLemmas::remark_so, crate::proofs::SpellLemmas::remark_sets, crate::proofs::SpellLemmas::itself_so, crate::proofs::SpellLemmas::itself_sets, crate::proofs::SpellLemmas::plain_so, crate::proofs::SpellLemmas::plain_sets))]
+/// Appends the line that stands for this one below these settings and local labels, to which what it sets and its own go.
+#[tactic(auto, using(crate::proofs::SpellLemmas::unreadable_so, crate::proofs::SpellLemmas::unreadable_sets, crate::proofs::SpellLemmas::unreadable_counts, crate::proofs::SpellLemmas::remark_so, crate::proofs::SpellLemmas::remark_sets, crate::proofs::SpellLemmas::remark_counts, crate::proofs::SpellLemmas::speaks_so, crate::proofs::SpellLemmas::saying_counts, crate::proofs::SpellLemmas::silent_counts, crate::proofs::SpellLemmas::itself_so, crate::proofs::SpellLemmas::itself_sets, crate::proofs::SpellLemmas::plain_so, crate::proofs::SpellLemmas::plain_sets))]
 pub(crate) fn push_spelled(
     isa: InstructionSet,
     text: &mut Vec<u8>,
     names: &mut Vec<Setting>,
+    locals: &mut Locals,
     spare: &mut Spare,
     line: &[u8],
 ) -> Result<(), AllocError>
-    ensures text { OnOk result (text.new.items ≡ text.old.items ++ spelled isa names.old.items line.now) }
-    ensures names { OnOk result (names.new.items ≡ names_below isa names.old.items line.now) }
+    ensures text { OnOk result (text.new.items ≡ text.old.items ++ spelled isa names.old.items locals.old.mark.items (counts_below isa locals.old.counts.items line.now) line.now) }
+    ensures names { OnOk result (names.new.items ≡ names_below isa names.old.items locals.old.mark.items (counts_below isa locals.old.counts.items line.now) line.now) }
+    ensures counts { OnOk result (locals.new.counts.items ≡ counts_below isa locals.old.counts.items line.now) }
+    ensures mark { locals.new.mark ≡ locals.old.mark }
 {
     if !is_readable(line) {
+        spare.count(locals, line)?;
         return push_unreadable(text, line);
     }
     if is_remark(line) {
         return text.extend_from_slice(line);
     }
-    if is_nothing_written(isa, line) {
-        return text.extend_from_slice(line);
-    }
     let (reading, speaking) = read(isa, &mut spare.read, line)?;
-    if stands(isa, reading, speaking, line) {
+    if speaking {
         return text.extend_from_slice(line);
     }
-    spare.push_plain(isa, text, names, line)
+    spare.count(locals, line)?;
+    if stands(isa, reading, line) {
+        return text.extend_from_slice(line);
+    }
+    spare.push_plain(isa, text, names, locals)
 }

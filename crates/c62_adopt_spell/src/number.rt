@@ -1,41 +1,52 @@
 //! Numbers and registers as assemblers spell them.
 
-ghost use Rattle.std.specs.Prelude.{◌≡◌, ◌≤◌, ◌<◌, ◌^◌, ◌∷◌, length, IsTrue};
+ghost use Rattle.std.specs.Prelude.{◌≡◌, ◌≤◌, ◌<◌, ◌^◌, length, map, IsTrue};
 ghost use Rattle.std.specs.Str.Parse.{digits_value};
 ghost use Rattle.c62_token.specs.Number.{are_digits, number_of};
-ghost use Rattle.c62_adopt_spell.specs.Number.{capital_of, bits_of, binary_of, written_of, with_sign, value_of, plain_name};
+ghost use Rattle.c62_adopt_spell.specs.Number.{small_x, capital_of, total, bits_of, binary_of, signed_binary_of, written_of, with_sign, value_of, plain_name};
 
 use arrayvec::ArrayVec;
 use c62_token::number::{number, spells};
 
-/// The number behind `0X`.
+fn small_x(b: u8) -> u8
+    ensures { result ≡ small_x b }
+{
+    if b == b'X' { b'x' } else { b }
+}
+
+/// The number of at most eleven bytes, with `x` in place of `X`.
+fn small(word: &[u8]) -> Option<i64>
+    requires { length word.now ≤ 11 }
+    ensures { result ≡ number_of (map small_x word.now) }
+{
+    let mut small: ArrayVec<u8, 11> = ArrayVec::new();
+    for b in word {
+        small.push(small_x(*b));
+    }
+    number(&small)
+}
+
+/// The number of a word that may have `0X` in place of `0x`.
 fn capital(word: &[u8]) -> Option<i64>
     ensures { result ≡ capital_of word.now }
 {
-    match word {
-        [b'0', b'X', digits @ ..] => {
-            if digits.len() <= 8 {
-                small(digits)
-            } else {
-                None
-            }
-        }
-        _ => None,
-    }
+    if word.len() <= 11 { small(word) } else { None }
 }
 
-/// The number that stands behind `0x`.
-fn small(digits: &[u8]) -> Option<i64>
-    requires { length digits.now ≤ 8 }
-    ensures { result ≡ number_of (48 ∷ 120 ∷ digits.now) }
+/// The sum or the difference, which has to be a number.
+pub(crate) fn total(minus: bool, m: i64, k: i64) -> Option<i64>
+    ensures { result ≡ total minus m k }
 {
-    let mut word: ArrayVec<u8, 10> = ArrayVec::new();
-    word.push(b'0');
-    word.push(b'x');
-    for b in digits {
-        word.push(*b);
+    let sum = if minus {
+        m.checked_sub(k)?
+    } else {
+        m.checked_add(k)?
+    };
+    if -2_147_483_648 <= sum && sum <= 4_294_967_295 {
+        Some(sum)
+    } else {
+        None
     }
-    number(&word)
 }
 
 fn is_binary(digits: &[u8]) -> bool
@@ -79,6 +90,17 @@ fn binary(word: &[u8]) -> Option<i64>
     }
 }
 
+/// The number behind `0b`, with a sign or without.
+fn signed_binary(word: &[u8]) -> Option<i64>
+    ensures { result ≡ signed_binary_of word.now }
+{
+    match word {
+        [b'-', digits @ ..] => total(true, 0, binary(digits)?),
+        [b'+', digits @ ..] => binary(digits),
+        _ => binary(word),
+    }
+}
+
 fn written(word: &[u8]) -> Option<i64>
     ensures { result ≡ written_of word.now }
 {
@@ -88,7 +110,7 @@ fn written(word: &[u8]) -> Option<i64>
     if let Some(k) = capital(word) {
         return Some(k);
     }
-    binary(word)
+    signed_binary(word)
 }
 
 /// A word of 32 bits as a number with a sign.

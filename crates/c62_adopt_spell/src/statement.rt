@@ -52,7 +52,7 @@ pub(crate) fn names_branch(word: &[u8]) -> bool
     spells(b"RET", word) || spells(b"CALL", word) || spells(b"CALLRET", word)
 }
 
-fn is_branch(word: &[u8]) -> bool
+pub(crate) fn is_branch(word: &[u8]) -> bool
     ensures { result ≡ is_branch word.now }
 {
     spells(b"B", word) || names_branch(word)

@@ -5,12 +5,14 @@ ghost use Rattle.std.specs.Fmt.{signed_decimal};
 ghost use Rattle.c62_op.specs.Name.{file_letter, register_name};
 ghost use Rattle.c62_token.specs.Token.{begins, is_sign, tokens, words_left};
 ghost use Rattle.c62_adopt_line.specs.Plain.{spaced};
+ghost use Rattle.c62_adopt_spell.specs.Number.{total};
 ghost use Rattle.c62_adopt_spell.specs.Statement.{with_sums};
 
 use crate::names::{Setting, Value, value_named};
-use crate::number::{plain_name, value};
+use crate::number::{plain_name, total, value};
 use c62_insn::{Reg, Side};
-use c62_token::Tokens;
+use c62_token::number::spells;
+use c62_token::{Tokens, begins_with};
 use itoa::Buffer;
 use std::alloc::AllocError;
 
@@ -18,13 +20,15 @@ use std::alloc::AllocError;
 #[derive(Clone, Copy)]
 pub(crate) enum Sum {
     Nothing,
+    /// Nothing of this operand, which begins there.
+    Front,
     Number(i64),
     /// A number, and a sign behind it: whether that is a minus.
     Signed(i64, bool),
 }
 
-ghost use Rattle.c62_adopt_spell.specs.declared.sum.Sum.TheVariants.{Nothing, Number as NumberSum, Signed as SignedSum};
-ghost use Rattle.c62_adopt_spell.specs.Sum.{sign_word, flushed, total, summed_to, number_behind, signed_by, word_behind, name_behind, step, summed, Steps};
+ghost use Rattle.c62_adopt_spell.specs.declared.sum.Sum.TheVariants.{Nothing, Front, Number as NumberSum, Signed as SignedSum};
+ghost use Rattle.c62_adopt_spell.specs.Sum.{sign_word, flushed, summed_to, number_behind, signed_with, signed_by, opens_operand, sum_behind, word_behind, name_behind, step, summed, Steps};
 
 pub(crate) fn push_word(text: &mut Vec<u8>, word: &[u8]) -> Result<(), AllocError>
     ensures { OnOk result (text.new.items ≡ text.old.items ++ spaced (word.now ∷ [])) }
@@ -51,28 +55,12 @@ fn push_flushed(text: &mut Vec<u8>, sum: Sum) -> Result<(), AllocError>
     ensures { OnOk result (text.new.items ≡ text.old.items ++ spaced (flushed sum)) }
 {
     match sum {
-        Sum::Nothing => Ok(()),
+        Sum::Nothing | Sum::Front => Ok(()),
         Sum::Number(m) => push_number(text, m),
         Sum::Signed(m, minus) => {
             push_number(text, m)?;
             push_word(text, sign_word(minus))
         }
-    }
-}
-
-/// The sum or the difference, which has to be a number.
-fn total(minus: bool, m: i64, k: i64) -> Option<i64>
-    ensures { result ≡ total minus m k }
-{
-    let sum = if minus {
-        m.checked_sub(k)?
-    } else {
-        m.checked_add(k)?
-    };
-    if -2_147_483_648 <= sum && sum <= 4_294_967_295 {
-        Some(sum)
-    } else {
-        None
     }
 }
 
@@ -94,7 +82,7 @@ fn push_number_behind(text: &mut Vec<u8>, signed: bool, sum: Sum, k: i64) -> Res
     ensures { IfOk result (Steps (number_behind signed sum k) text.old.items text.new.items) }
 {
     match sum {
-        Sum::Nothing => Ok(Sum::Number(k)),
+        Sum::Nothing | Sum::Front => Ok(Sum::Number(k)),
         Sum::Number(m) => {
             let found = if signed { total(false, m, k) } else { None };
             push_total(text, sum, found, k)
@@ -103,17 +91,42 @@ fn push_number_behind(text: &mut Vec<u8>, signed: bool, sum: Sum, k: i64) -> Res
     }
 }
 
-/// The sum that a sign behind it goes on with.
+/// A number with this sign behind it, if it is one.
+fn signed_with(m: i64, word: &[u8]) -> Option<Sum>
+    ensures { result ≡ signed_with m word.now }
+{
+    match word {
+        b"-" => Some(Sum::Signed(m, true)),
+        b"+" => Some(Sum::Signed(m, false)),
+        _ => None,
+    }
+}
+
+/// The sum that a sign behind it goes on with. One that stands in front of an operand is behind 0.
 fn signed(sum: Sum, word: &[u8]) -> Option<Sum>
     ensures { result ≡ signed_by sum word.now }
 {
     match sum {
-        Sum::Number(m) => match word {
-            b"-" => Some(Sum::Signed(m, true)),
-            b"+" => Some(Sum::Signed(m, false)),
-            _ => None,
-        },
+        Sum::Front => signed_with(0, word),
+        Sum::Number(m) => signed_with(m, word),
         Sum::Nothing | Sum::Signed(_, _) => None,
+    }
+}
+
+/// Whether an operand begins behind a word.
+fn opens_operand(word: &[u8]) -> bool
+    ensures { result ≡ opens_operand word.now }
+{
+    begins_with(b'.', word) || spells(b",", word) || spells(b"(", word) || spells(b"[", word)
+}
+
+fn sum_behind(word: &[u8]) -> Sum
+    ensures { result ≡ sum_behind word.now }
+{
+    if opens_operand(word) {
+        Sum::Front
+    } else {
+        Sum::Nothing
     }
 }
 
@@ -126,7 +139,7 @@ fn push_word_behind(text: &mut Vec<u8>, sum: Sum, word: &[u8]) -> Result<Sum, Al
         None => {
             push_flushed(text, sum)?;
             push_word(text, plain_name(word))?;
-            Ok(Sum::Nothing)
+            Ok(sum_behind(word))
         }
     }
 }

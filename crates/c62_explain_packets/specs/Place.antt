@@ -5,7 +5,9 @@ use Rattle.c62_line.specs.declared.fault.Cause.{Cause}
 use Rattle.c62_line.specs.declared.fault.Cause.TheVariants.{ParallelBar, Form, TooManyInstructions, UnknownTarget}
 use Rattle.c62_place.specs.declared.place.Place.{Place}
 use Rattle.c62_place.specs.Place.{IsPlace}
+use Rattle.std.specs.Option.{option_or}
 use Rattle.c62_adopt_line.specs.Line.{behind_bars}
+use Rattle.c62_adopt_spell.specs.Local.{behind_local}
 use Rattle.c62_explain.specs.Picture.{blank_byte}
 use Rattle.c62_explain_packets.specs.declared.finding.What.{What}
 use Rattle.c62_explain_packets.specs.declared.finding.What.TheVariants.{Read, UnitWanted, TooManyCycles, TwoBranches, BranchBeside, TooManyTargets, NotDrained, Rule, Code, Shape}
@@ -28,14 +30,18 @@ abbrev pub blanked_front : List ℕ → Option (List ℕ) → List ℕ
 blanked_front line None = line
 blanked_front line (Some rest) = map blank_byte (take (length line - length rest) line) ++ rest
 
--- the line with blanks in the place of its bars, as serial text has it
-abbrev pub without_bars : List ℕ → List ℕ
-without_bars line = blanked_front line (behind_bars line)
+-- what stands behind the bars, or behind the local label
+abbrev pub behind_front : List ℕ → Option (List ℕ)
+behind_front line = option_or (behind_bars line) (behind_local line)
+
+-- the line with blanks in the place of its bars or of its local label, as serial text has it
+abbrev pub without_front : List ℕ → List ℕ
+without_front line = blanked_front line (behind_front line)
 
 -- bars themselves are looked for in the line as it stands
 abbrev pub searched_line : What → List ℕ → List ℕ
 searched_line (Read ParallelBar) line = line
-searched_line what line = without_bars line
+searched_line what line = without_front line
 
 -- The fault is found where that of serial text is found.
 abbrev pub IsFoundAt : InstructionSet → What → List ℕ → Place → Type 0

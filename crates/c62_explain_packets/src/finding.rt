@@ -1,6 +1,6 @@
 //! What is wrong with which line of packets.
 
-ghost use Rattle.std.specs.Prelude.{◌≡◌, ◌<◌, ◌≤◌, ◌++◌, ◌^◌, IfOk, OnOk, MatchOption, Some, length, option_map};
+ghost use Rattle.std.specs.Prelude.{◌≡◌, ◌<◌, ◌≤◌, ◌++◌, ◌^◌, IfOk, IfSome, OnOk, MatchOption, Some, length, option_map};
 ghost use Rattle.std.specs.Option.{option_copied};
 ghost use Rattle.c62_adopt_cut.specs.FaultText.{cause_name as text_cause_name};
 ghost use Rattle.c62_adopt_line.specs.FaultName.{line_fault_name};
@@ -8,13 +8,14 @@ ghost use Rattle.c62_adopt.specs.FaultText.{adopt_fault_text};
 ghost use Rattle.c62_rows.specs.FaultText.{cause_name as rows_cause_name, fault_text as rows_fault_text};
 ghost use Rattle.c62_explain_packets.specs.Sentence.{rule_sentence, code_sentence, read_sentence, what_sentence};
 ghost use Rattle.c62_explain_packets.specs.Listed.{IsFoundInBlock, IsFoundListed};
-ghost use Rattle.c62_explain_packets.specs.Place.{serial_cause, blanked_front, without_bars, searched_line, IsFoundAt};
+ghost use Rattle.c62_explain_packets.specs.Place.{serial_cause, blanked_front, behind_front, without_front, searched_line, IsFoundAt};
 ghost use Rattle.c62_explain_packets.specs.Finding.{IsShort, IsShortLine, IsShortRow, IsShortRows, IsShortText, IsToldAs, found_at, what_name};
 
 use c62_adopt::{AdoptFault, adopt};
 use c62_adopt_code::CodeCause;
 use c62_adopt_cut::TextCause;
 use c62_adopt_line::{LineFault, behind_bars};
+use c62_adopt_spell::behind_local;
 use c62_explain::{push_blanks, sentence_of};
 use c62_insn::FormFault;
 use c62_line::Cause;
@@ -242,7 +243,18 @@ pub fn of_listing(
     }
 }
 
-/// Adds a line whose part behind the bars is this, with blanks in the place of what stands in front of that.
+/// What stands behind the bars of a line, or behind its local label.
+fn behind_front(line: &[u8]) -> Option<&[u8]>
+    ensures front { option_copied result ≡ behind_front line.now }
+    ensures shorter { IfSome result (λ rest. length rest.now ≤ length line.now) }
+{
+    if let Some(rest) = behind_bars(line) {
+        return Some(rest);
+    }
+    behind_local(line)
+}
+
+/// Adds a line whose part behind its front is this, with blanks in the place of what stands in front of that.
 fn push_blanked(out: &mut Vec<u8>, line: &[u8], rest: &[u8]) -> Result<(), AllocError>
     requires { length rest.now ≤ length line.now }
     ensures { OnOk result (out.new.items ≡ out.old.items ++ blanked_front line.now (Some rest.now)) }
@@ -251,12 +263,12 @@ fn push_blanked(out: &mut Vec<u8>, line: &[u8], rest: &[u8]) -> Result<(), Alloc
     out.extend_from_slice(rest)
 }
 
-/// The line with blanks in the place of its bars, as serial text has it.
-pub(crate) fn without_bars(alloc: Global, line: &[u8]) -> Result<Vec<u8>, AllocError>
-    ensures { IfOk result (λ serial. serial.items ≡ without_bars line.now) }
+/// The line with blanks in the place of its bars or of its local label, as serial text has it.
+pub(crate) fn without_front(alloc: Global, line: &[u8]) -> Result<Vec<u8>, AllocError>
+    ensures { IfOk result (λ serial. serial.items ≡ without_front line.now) }
 {
     let mut serial = Vec::new(alloc);
-    match behind_bars(line) {
+    match behind_front(line) {
         Some(rest) => push_blanked(&mut serial, line, rest)?,
         None => serial.extend_from_slice(line)?,
     }
@@ -269,7 +281,7 @@ fn searched_line(alloc: Global, what: What, line: &[u8]) -> Result<Vec<u8>, Allo
 {
     match what {
         What::Read(Cause::ParallelBar) => Vec::from_slice(alloc, line),
-        _ => without_bars(alloc, line),
+        _ => without_front(alloc, line),
     }
 }
 

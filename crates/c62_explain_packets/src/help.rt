@@ -8,6 +8,7 @@ use crate::finding::{Finding, What};
 use crate::sharing::{lacking, landing_together, lines_sharing};
 use c62_adopt_code::CodeCause;
 use c62_adopt_cut::{Cut, Draft, Issue};
+use c62_adopt_spell::reference_of;
 use c62_explain::{line_at, line_help, push_hint};
 use c62_insn::{Letter, Reg, Side, Unit};
 use c62_line::{Cause, ReadFault};
@@ -68,6 +69,13 @@ pub(crate) fn issue_at(drafts: &[Draft], line: u32) -> Option<(&Draft, &Issue)> 
 /// A line without the blanks that stand first.
 fn from_token(line: &[u8]) -> &[u8] {
     &line[token_at(line, 0).start.min(line.len())..]
+}
+
+/// The token of a line that stands there.
+fn word_at(line: &[u8], place: Place) -> &[u8] {
+    let from = place.start.min(line.len());
+    let behind = &line[from..];
+    &behind[..place.len.min(behind.len())]
 }
 
 /// A line of help of these words.
@@ -325,7 +333,47 @@ fn push_branch(out: &mut Vec<u8>, text: &[u8], number: u32, cut: &Cut) -> Result
     }
 }
 
-/// What helps where a line has a fault that serial texts have, too; `serial` is the line without its bars.
+/// What is said of a reference to a local label that isn't there.
+#[tactic(auto, using(c62_explain::proofs::HintLemmas::adds_none))]
+fn push_lost(out: &mut Vec<u8>, number: u32, word: &[u8], below: bool) -> Result<(), AllocError>
+    ensures { OnOk result (AddsHelp number out.old.items out.new.items) }
+{
+    let Some((_, label)) = word.split_last() else {
+        return Ok(());
+    };
+    let place: &[u8] = if below {
+        b"below"
+    } else {
+        b"above, nor on this one"
+    };
+    push_one(
+        out,
+        number,
+        &[b"the label ", label, b": stands on no line ", place],
+    )
+}
+
+/// What helps where a line goes to a label that isn't there.
+#[tactic(auto, using(c62_explain::proofs::HintLemmas::adds_none))]
+fn push_target_help(
+    isa: InstructionSet,
+    out: &mut Vec<u8>,
+    alloc: Global,
+    text: &[u8],
+    serial: &[u8],
+    fault: ReadFault,
+    place: Place,
+) -> Result<(), AllocError>
+    ensures { OnOk result (AddsHelp fault.line out.old.items out.new.items) }
+{
+    let word = word_at(serial, place);
+    match reference_of(word) {
+        Some((_, below)) => push_lost(out, fault.line, word, below),
+        None => out.extend_from_slice(&line_help(isa, alloc, text, serial, fault, place)?),
+    }
+}
+
+/// What helps where a line has a fault that serial texts have, too; `serial` is the line without its bars or its local label.
 #[tactic(auto, using(c62_explain::proofs::HintLemmas::adds_none))]
 fn push_read_help(
     isa: InstructionSet,
@@ -345,6 +393,7 @@ fn push_read_help(
             &[b"docs/ADOPT.md has the directives that are read"],
         ),
         Cause::ParallelBar | Cause::DuplicateLabel => Ok(()),
+        Cause::UnknownTarget => push_target_help(isa, out, alloc, text, serial, fault, place),
         _ => out.extend_from_slice(&line_help(isa, alloc, text, serial, fault, place)?),
     }
 }

@@ -7,7 +7,7 @@ ghost use Rattle.c62_explain_packets.specs.Warned.{early_among};
 ghost use Rattle.c62_explain_packets.specs.Remarks.{AreListingRemarks, AreReads, AreRemarks, IsPlaced, IsPlacedAs};
 
 use crate::early::{EarlyRead, early_reads};
-use crate::finding::{Finding, of_adopt, of_listing, place_in, without_bars};
+use crate::finding::{Finding, of_adopt, of_listing, place_in, without_front};
 use crate::further::further_faults;
 use crate::further_listed::further_listed;
 use c62_adopt::{adopt, read_code};
@@ -114,7 +114,7 @@ fn register_place(line: &[u8], register: Reg) -> Place {
 fn placed_read(alloc: Global, text: &[u8], early: EarlyRead) -> Result<PlacedRead, AllocError>
     ensures { IfOk result (λ read. read.early ≡ early) }
 {
-    let line = without_bars(alloc, line_at(text, early.line))?;
+    let line = without_front(alloc, line_at(text, early.line))?;
     let place = register_place(&line, early.register);
     Ok(PlacedRead {
         early,

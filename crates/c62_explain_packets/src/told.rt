@@ -3,7 +3,7 @@
 ghost use Rattle.std.specs.Prelude.{IfOk};
 ghost use Rattle.c62_explain_packets.specs.Told.{Explains};
 
-use crate::finding::{Finding, place_in, without_bars};
+use crate::finding::{Finding, place_in, without_front};
 use crate::help::push_help;
 use c62_adopt::{AdoptFault, read_code};
 use c62_adopt_cut::{Cut, read_cut};
@@ -49,7 +49,7 @@ pub fn explain(
         place,
         finding.what.sentence(),
     )?;
-    let serial = without_bars(alloc, line)?;
+    let serial = without_front(alloc, line)?;
     let cut = cut_of(isa, alloc, text)?;
     push_help(isa, &mut out, alloc, text, &serial, finding, place, &cut)?;
     Ok(out)

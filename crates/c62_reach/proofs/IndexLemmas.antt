@@ -1,126 +1,136 @@
 -- Parts are found by their labels.
-use Rattle.std.proofs.Common.{◌≡◌, ◌<◌, ◌+◌, ◌∙◌, ℕ, suc, Bool, true, false, List, [], ◌∷◌, ◌++◌, length, map, take}
-use Rattle.std.proofs.Common.{get_or, Option, Some, None, is_some, refl, sym, ap, subst, arith, cond}
-use Rattle.std.specs.Prelude.{option_map, IfSome}
+use Rattle.std.proofs.Common.{◌≡◌, ◌<◌, ◌+◌, ◌∙◌, ℕ, Bool, true, false, List, [], ◌∷◌, ◌++◌, length, map, take, ◌&&◌}
+use Rattle.std.proofs.Common.{get_or, Option, Some, None, is_some, refl, sym, ap, subst, arith, cond, eqb}
+use Rattle.std.specs.Prelude.{IfSome}
+use Rattle.std.specs.List.{position}
 use Rattle.std.specs.Map.{lookup}
 use Rattle.std.specs.Option.{option_or}
 use Rattle.std.specs.Str.{bytes_eq}
-use Rattle.std.proofs.lemmas.Bool.Decides.{nat_tests}
 use Rattle.std.specs.Cmp.Lexicographic.{same_text}
+use Rattle.std.proofs.lemmas.Bool.{and_parts, eqb-true}
+use Rattle.std.proofs.lemmas.Bool.Decides.{nat_tests}
+use Rattle.std.proofs.lemmas.List.{length-map, length-take-le, map-append, take_more}
+use Rattle.std.proofs.lemmas.List.Quantifiers.{position-Some}
 use Rattle.indexmap.specs.IndexMap.{insert_entry}
 use Rattle.indexmap.proofs.MapLemmas.{absent_from_lookup, insert_entry-absent}
 use Rattle.c62_read.specs.Program.{Name}
-use Rattle.std.proofs.lemmas.List.{length-map, length-take-le, map-append, take_more}
+use Rattle.c62_reach.specs.declared.index.Index.{Index}
 use Rattle.c62_reach.specs.declared.part.Part.{Part as PartRead}
 use Rattle.c62_reach.specs.Part.{Part}
 use Rattle.c62_reach.specs.PartRead.{part_read}
-use Rattle.c62_reach.specs.Reach.{is_named, part_named}
-use Rattle.c62_reach.specs.Index.{Indexes, with_label}
+use Rattle.c62_reach.specs.Reach.{is_named, no_part}
+use Rattle.c62_reach.specs.Index.{Adds, Indexes, is_same, with_key}
+
+-- ---- a key more
 
 none_if : {X : Type 0} (o : Option X) → is_some o ≡ false → o ≡ None
 none_if None e = refl
 none_if (Some x) e = absurd cc
 
--- a new label goes last
-pub inserted : (name : Name) (entries : List (Name × ℕ)) (value : ℕ) → is_some (lookup (bytes_eq name) entries) ≡ false
-    → insert_entry bytes_eq entries name value ≡ entries ++ (name, value) ∷ []
-inserted name entries value new =
-    insert_entry-absent bytes_eq name value entries
-    (absent_from_lookup (bytes_eq name) entries (none_if (lookup (bytes_eq name) entries) new))
+or_none : {X : Type 0} (o : Option X) → option_or o None ≡ o
+or_none None = refl
+or_none (Some x) = refl
 
--- ---- one part more
+-- a new key goes last
+pub inserted : {K : Type 0} (same : K → K → Bool) (entries : List (K × ℕ)) (key : K) (k : ℕ)
+    → is_some (lookup (same key) entries) ≡ false → insert_entry same entries key k ≡ entries ++ (key, k) ∷ []
+inserted same entries key k new =
+    insert_entry-absent same key k entries
+    (absent_from_lookup (same key) entries (none_if (lookup (same key) entries) new))
 
-lookup_push : (name label : Name) (k : ℕ) (entries : List (Name × ℕ))
-    → lookup (bytes_eq name) (entries ++ (label, k) ∷ []) ≡ option_or (lookup (bytes_eq name) entries)
-    (cond (bytes_eq name label) (Some k) None)
-lookup_push name label k [] = refl
-lookup_push name label k (entry ∷ entries) = grind (arith, nat_tests, lookup_push name label k entries)
+lookup_push : {K : Type 0} (test : K → Bool) (key : K) (k : ℕ) (entries : List (K × ℕ))
+    → lookup test (entries ++ (key, k) ∷ []) ≡ option_or (lookup test entries) (cond (test key) (Some k) None)
+lookup_push test key k [] = refl
+lookup_push test key k (entry ∷ entries) = grind (arith, nat_tests, lookup_push test key k entries)
 
-named_push : (name : Name) (parts : List Part) (part : Part)
-    → part_named name (parts ++ part ∷ []) ≡ option_or (part_named name parts)
-    (cond (is_named name part.label) (Some (length parts)) None)
-named_push name [] part = grind (arith, nat_tests)
-named_push name (other ∷ parts) part = grind (arith, nat_tests, named_push name parts part)
+-- what is found under a key then
+found_then : {K : Type 0} (same : K → K → Bool) (key other : K) (k : ℕ) (entries : List (K × ℕ))
+    → (same other key ≡ true → other ≡ key)
+    → lookup (same other) (with_key same key k entries) ≡ option_or (lookup (same other) entries)
+    (cond (same other key) (Some k) None)
+found_then {K} same key other k entries are = on_there (lookup (same key) entries) refl
+  where
+    on_there : (found : Option ℕ) → lookup (same key) entries ≡ found
+        → lookup (same other) (cond (is_some found) entries (entries ++ (key, k) ∷ [])) ≡ option_or
+        (lookup (same other) entries) (cond (same other key) (Some k) None)
+    on_there None none = lookup_push (same other) key k entries
+    on_there (Some j) there = kept (same other key) refl
+      where
+        kept : (b : Bool) → same other key ≡ b
+            → lookup (same other) entries ≡ option_or (lookup (same other) entries) (cond b (Some k) None)
+        kept true e =
+            let found : lookup (same other) entries ≡ Some j = ap (λ (key : K). lookup (same key) entries) (are e)
+            ∙ there in
+            rw found refl
+        kept false e = sym (or_none (lookup (same other) entries))
 
-pub none_indexed : Indexes [] []
-unfolding Indexes
-none_indexed name = refl
+-- ---- a part more
 
--- names that are the same by their bytes
+position_push : (test : Part → Bool) (parts : List Part) (part : Part)
+    → position test (parts ++ part ∷ []) ≡ option_or (position test parts) (cond (test part) (Some (length parts)) None)
+position_push test [] part = grind (arith, nat_tests)
+position_push test (other ∷ parts) part = grind (arith, nat_tests, position_push test parts part)
+
 same_name : (name label : Name) → bytes_eq name label ≡ true → name ≡ label
 same_name name label e = same_text name label (sym e)
 
-by_label : (parts : List Part) (entries : List (Name × ℕ)) (label : Option Name) (part : Part) → label ≡ part.label
-    → Indexes parts entries
-    → (name : Name) → lookup (bytes_eq name) (with_label label (length parts) entries) ≡ part_named name
-    (parts ++ part ∷ [])
-unfolding Indexes
-by_label parts entries None part same indexed name = grind
-    (arith, nat_tests, named_push name parts part, indexed name, same)
-by_label parts entries (Some label) part same indexed name =
-    on_there (lookup (bytes_eq label) entries) refl
-  where
-    own : is_named name part.label ≡ bytes_eq name label
-    own = ap (is_named name) (sym same)
+same_own : (one other : ℕ × Name) → is_same one other ≡ true → one ≡ other
+same_own (file, name) (other, label) e =
+    let both = and_parts (eqb file other) (bytes_eq name label) e in
+    rw (eqb-true file other both.0, same_name name label both.1) refl
 
-    on_there : (found : Option ℕ) → lookup (bytes_eq label) entries ≡ found
-        → lookup (bytes_eq name) (cond (is_some found) entries (entries ++ (label, length parts) ∷ [])) ≡ part_named
-        name (parts ++ part ∷ [])
-    on_there None none = lookup_push name label (length parts) entries
-        ∙ rw (indexed name) (sym (rw (← own) (named_push name parts part)))
-    on_there (Some k) there = kept (bytes_eq name label) refl
-      where
-        kept : (b : Bool) → bytes_eq name label ≡ b
-            → lookup (bytes_eq name) entries ≡ part_named name (parts ++ part ∷ [])
-        kept true e =
-            let found : part_named name parts ≡ Some k = sym (indexed name)
-            ∙ ap (λ (n : Name). lookup (bytes_eq n) entries) (same_name name label e) ∙ there in
-            grind (arith, nat_tests, named_push name parts part, indexed name, found)
-        kept false e = grind (arith, nat_tests, named_push name parts part, indexed name, own, e)
+-- the entries that have a key of the part find it
+one_found : {K : Type 0} (same : K → K → Bool) (key other : K) (test : Part → Bool) (parts : List Part) (part : Part)
+    (old new : List (K × ℕ)) → (same other key ≡ true → other ≡ key)
+    → lookup (same other) old ≡ position test parts → new ≡ with_key same key (length parts) old
+    → same other key ≡ test part → lookup (same other) new ≡ position test (parts ++ part ∷ [])
+one_found {K} same key other test parts part old new are found added is =
+    let then : lookup (same other) new ≡ option_or (position test parts) (cond (test part) (Some (length parts)) None) =
+    rw (added, ← found, ← is) (found_then same key other (length parts) old are) in
+    then ∙ sym (position_push test parts part)
 
-pub one_indexed : (parts : List Part) (entries : List (Name × ℕ)) (part : Part) → Indexes parts entries
-    → Indexes (parts ++ part ∷ []) (with_label part.label (length parts) entries)
-unfolding Indexes
-one_indexed parts entries part indexed name = by_label parts entries part.label part refl indexed name
+-- no part without a label is found
+none_found : (test : Part → Bool) (parts : List Part) (part : Part) → test part ≡ false
+    → position test parts ≡ position test (parts ++ part ∷ [])
+none_found test parts part none = sym (position_push test parts part ∙ rw none (or_none (position test parts)))
+
+by_label : (parts : List Part) (part : Part) (label : Option Name) (old new : Index) → label ≡ part.label
+    → Indexes parts old → Adds (length parts) part.file label old new → Indexes (parts ++ part ∷ []) new
+by_label parts part None old new is indexed same = record {
+  first = λ name. rw same (indexed.first name
+      ∙ none_found (λ p. is_named name p.label) parts part (rw (← is) refl));
+  own = λ file name. rw same (indexed.own file name
+      ∙ none_found (λ p. eqb file p.file && is_named name p.label) parts part
+      (rw (← is) (grind (arith, nat_tests))));
+}
+by_label parts part (Some label) old new is indexed added = record {
+  first = λ name. one_found bytes_eq label name (λ p. is_named name p.label) parts part old.first.entries
+      new.first.entries (same_name name label) (indexed.first name) added.0 (rw (← is) refl);
+  own = λ file name. one_found is_same (part.file, label) (file, name)
+      (λ p. eqb file p.file && is_named name p.label) parts part old.own.entries new.own.entries
+      (same_own (file, name) (part.file, label)) (indexed.own file name) added.1 (rw (← is) refl);
+}
 
 -- the next of some parts
-pub next_indexed : (parts : List PartRead) (k : ℕ) (d : PartRead) (old new : List (Name × ℕ)) → k < length parts
-    → Indexes (map part_read (take k parts)) old
-    → new ≡ with_label (get_or parts k d).label k old → Indexes (map part_read (take (k + 1) parts)) new
-next_indexed parts k d old new inside indexed added =
-    let part = get_or parts k d in
+pub next_indexed : (parts : List PartRead) (k : ℕ) (part : PartRead) (old new : Index) → k < length parts
+    → part ≡ get_or parts k part → Indexes (map part_read (take k parts)) old
+    → Adds k part.file part.label old new → Indexes (map part_read (take (k + 1) parts)) new
+next_indexed parts k part old new inside is indexed added =
     let above = map part_read (take k parts) in
     let len : length above ≡ k = length-map (take k parts) part_read ∙ length-take-le k parts (omega (arith, inside)) in
+    let list : take (k + 1) parts ≡ take k parts ++ part ∷ [] = take_more parts k part inside
+    ∙ ap (λ (p : PartRead). take k parts ++ p ∷ []) (sym is) in
     let lists : map part_read (take (k + 1) parts) ≡ above ++ part_read part ∷ [] =
-    ap (map part_read) (take_more parts k d inside) ∙ map-append part_read (take k parts) (part ∷ []) in
-    let entries : new ≡ with_label part.label (length above) old = added
-    ∙ ap (λ (n : ℕ). with_label part.label n old) (sym len) in
+    ap (map part_read) list ∙ map-append part_read (take k parts) (part ∷ []) in
     subst (λ (ps : List Part). Indexes ps new) (sym lists)
-    (subst (Indexes (above ++ part_read part ∷ [])) (sym entries)
-    (one_indexed above old (part_read part) indexed))
+    (by_label above (part_read part) part.label old new refl indexed
+    (subst (λ (n : ℕ). Adds n part.file part.label old new) (sym len) added))
 
 -- ---- what is found
 
-pub found_in : (parts : List Part) (entries : List (Name × ℕ)) (name : Name) → Indexes parts entries
-    → lookup (bytes_eq name) entries ≡ part_named name parts
-unfolding Indexes
-found_in parts entries name indexed = indexed name
-
-behind_first : (name : Name) (part : Part) (parts : List Part) (k : ℕ) (found : Option ℕ)
-    → ((j : ℕ) → found ≡ Some j → j < length parts)
-    → cond (is_named name part.label) (Some 0) (option_map suc found) ≡ Some k → k < length (part ∷ parts)
-behind_first name part parts k None inside is = grind (arith, nat_tests, is)
-behind_first name part parts k (Some j) inside is = let below : j < length parts = inside j refl in grind
-    (arith, nat_tests, is, below)
-
-named_within : (name : Name) (parts : List Part) (k : ℕ) → part_named name parts ≡ Some k → k < length parts
-named_within name [] k none = absurd cc
-named_within name (part ∷ parts) k is = behind_first name part parts k (part_named name parts)
-    (λ j there. named_within name parts j there) is
-
-pub within : (parts : List Part) (entries : List (Name × ℕ)) (name : Name) (found : Option ℕ)
-    → found ≡ lookup (bytes_eq name) entries → Indexes parts entries
-    → IfSome found (λ k. k < length parts)
-within parts entries name None is indexed = tt
-within parts entries name (Some k) is indexed = named_within name parts k (sym (found_in parts entries name indexed)
-    ∙ sym is)
+pub within : (parts : List Part) (index : Index) (name : Name) (found : Option ℕ)
+    → found ≡ lookup (bytes_eq name) index.first.entries → Indexes parts index → IfSome found (λ k. k < length parts)
+within parts index name None is indexed = tt
+within parts index name (Some k) is indexed =
+    (position-Some (λ p. is_named name p.label) parts k no_part
+    (sym (indexed.first name) ∙ sym is)).0

@@ -1,5 +1,6 @@
 pub mod FaultText
 pub mod Ended
+pub mod File
 pub mod Part
 pub mod PartRead
 pub mod Reach

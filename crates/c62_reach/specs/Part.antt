@@ -8,22 +8,26 @@ use Rattle.c62_adopt_code.specs.declared.way.Way.{Way}
 use Rattle.c62_adopt_code.specs.Statement.{front_of, label_of}
 use Rattle.c62_adopt_code.specs.Way.{comes_nothing, labelled_way, way_on}
 use Rattle.c62_rows.specs.Word.{Said, row_says}
+use Rattle.c62_reach.specs.File.{files_below}
 use Rattle.c62_op.specs.declared.set.InstructionSet.{InstructionSet}
 
--- the label with which it begins, the labels that its instructions name, and whether what runs in it may run on into the part below
+-- the label with which it begins, how many files begin above that, the labels that its instructions name, and whether what runs in it may run
+-- on into the part below
 pub record Part : Type 0 where
   pub label : Option Name
+  pub file : ℕ
   pub names : List Name
   pub runs_on : Bool
 
--- a part so far: its label, the labels that are named in it, and the way from its label on
+-- a part so far: its label and file, the labels that are named in it, and the way from its label on
 pub record Growing : Type 0 where
   pub label : Option Name
+  pub file : ℕ
   pub names : List Name
   pub way : Way
 
-abbrev pub new_part : Option Name → Growing
-new_part label = record { label = label; names = []; way = labelled_way }
+abbrev pub new_part : ℕ → Option Name → Growing
+new_part file label = record { label = label; file = file; names = []; way = labelled_way }
 
 -- ---- a line
 
@@ -35,6 +39,7 @@ target_in says = None
 abbrev pub with_said : Said → Growing → Growing
 with_said said last = record {
   label = last.label;
+  file = last.file;
   names = (last.names ++ option_to_list (target_in said.line.says)) ++ option_to_list said.word;
   way = way_on said.line last.way;
 }
@@ -55,15 +60,15 @@ label_at line = label_of (front_of line)
 
 -- it runs on, but where the line below stands six cycles or more behind a branch without a condition
 abbrev pub closed : Growing → Part
-closed last = record { label = last.label; names = last.names; runs_on = not (comes_nothing last.way) }
+closed last = record { label = last.label; file = last.file; names = last.names; runs_on = not (comes_nothing last.way) }
 
--- a part ends above the next line with a label
-unfoldable pub parts_below : InstructionSet → Growing → List (List ℕ) → List Part
-parts_below isa last [] = closed last ∷ []
-parts_below isa last (line ∷ lines) =
-    if is_some (label_at line) then closed last ∷ parts_below isa (with_line isa line (new_part (label_at line))) lines
-    else parts_below isa (with_line isa line last) lines
+-- a part ends above the next line with a label, above which so many files begin
+unfoldable pub parts_below : InstructionSet → ℕ → Growing → List (List ℕ) → List Part
+parts_below isa files last [] = closed last ∷ []
+parts_below isa files last (line ∷ lines) =
+    if is_some (label_at line) then closed last ∷ parts_below isa (files_below files line) (with_line isa line (new_part files (label_at line))) lines
+    else parts_below isa (files_below files line) (with_line isa line last) lines
 
 -- the parts of lines in the spelling that the reader of lines has; the first one stands above all labels
 abbrev pub parts_of : InstructionSet → List (List ℕ) → List Part
-parts_of isa lines = parts_below isa (new_part None) lines
+parts_of isa lines = parts_below isa 0 (new_part 0 None) lines

@@ -2,6 +2,7 @@
 #![tactic(auto)]
 
 mod fault;
+mod file;
 mod index;
 pub mod laws;
 mod line;

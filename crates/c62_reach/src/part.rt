@@ -1,6 +1,6 @@
 //! The parts of a text, which begin at its labels.
 
-ghost use Rattle.std.specs.Prelude.{◌≡◌, ◌≤◌, ◌++◌, ◌∷◌, [], ℕ, List, map, is_some, not, IfOk, OnOk};
+ghost use Rattle.std.specs.Prelude.{◌≡◌, ◌<◌, ◌≤◌, ◌^◌, ◌+◌, ◌++◌, ◌∷◌, [], ℕ, List, map, is_some, not, IfOk, OnOk};
 ghost use Rattle.std.specs.Option.{option_to_list};
 ghost use Rattle.c62_line.specs.Line.{said_of};
 ghost use Rattle.c62_read.specs.Text.{lines_of};
@@ -8,6 +8,7 @@ ghost use Rattle.c62_rows.specs.Read.{said_read};
 ghost use Rattle.c62_rows.specs.Word.{row_says};
 ghost use Rattle.c62_adopt_code.specs.Statement.{front_of, label_of};
 
+use crate::file::begins_file;
 use c62_adopt_code::{Way, label_in_front};
 use c62_adopt_line::LineFault;
 use c62_line::{Label, What};
@@ -20,6 +21,8 @@ use std::alloc::{AllocError, Global};
 #[derive(Drop)]
 pub(crate) struct Part {
     pub label: Option<Label>,
+    /// How many files begin above its label.
+    pub file: usize,
     /// The labels that its instructions name, to branch to them or for their words.
     pub names: Vec<Label>,
     /// Whether what runs in it may run on into the part below.
@@ -30,11 +33,13 @@ pub(crate) struct Part {
 #[derive(Drop)]
 struct Growing {
     label: Option<Label>,
+    file: usize,
     names: Vec<Label>,
     /// The way from its label on.
     way: Way,
 }
 
+ghost use Rattle.c62_reach.specs.File.{files_below};
 ghost use Rattle.c62_reach.specs.Part.{target_in, new_part, with_said, with_line, closed, parts_of};
 ghost use Rattle.c62_reach.specs.PartRead.{part_read, growing_read, parts_at, IsYoung, BeginsAt, AddsLine};
 
@@ -58,13 +63,14 @@ fn push_name(names: &mut Vec<Label>, name: Option<Label>) -> Result<(), AllocErr
 }
 
 impl Growing {
-    /// Begins a part at this label.
-    fn new(alloc: Global, label: Option<Label>) -> Growing
-        ensures new { growing_read result ≡ new_part label }
+    /// Begins a part of this file at this label.
+    fn new(alloc: Global, file: usize, label: Option<Label>) -> Growing
+        ensures new { growing_read result ≡ new_part file label }
         ensures young { IsYoung result }
     {
         Growing {
             label,
+            file,
             names: Vec::new(alloc),
             way: Way::labelled(),
         }
@@ -103,10 +109,21 @@ impl Growing {
     {
         Part {
             label: self.label,
+            file: self.file,
             names: self.names,
             runs_on: !self.way.comes_nothing(),
         }
     }
+}
+
+/// How many files begin above the next line, where so many begin above this one.
+#[tactic(auto, unfolding(crate::specs::File::files_below))]
+fn files_below(files: usize, line: &[u8]) -> usize
+    requires { files < 2 ^ 63 }
+    ensures below { result ≡ files_below files line.now }
+    ensures few { result ≤ files + 1 }
+{
+    if begins_file(line) { files + 1 } else { files }
 }
 
 /// The parts that are over, and the one to which the next line belongs where it has no label.
@@ -114,16 +131,20 @@ impl Growing {
 struct Reader {
     done: Vec<Part>,
     last: Growing,
+    /// How many files begin above the next line.
+    files: usize,
 }
 
 impl Reader {
     fn new(isa: InstructionSet, alloc: Global) -> Reader
         ensures new { (lines : List (List ℕ)) → parts_at isa result lines ≡ parts_of isa lines }
         ensures young { IsYoung result.last }
+        ensures files { result.files ≡ 0 }
     {
         Reader {
             done: Vec::new(alloc),
-            last: Growing::new(alloc, None),
+            last: Growing::new(alloc, 0, None),
+            files: 0,
         }
     }
 
@@ -145,7 +166,8 @@ impl Reader {
         done.push(self.last.closed())?;
         Ok(Reader {
             done,
-            last: Growing::new(alloc, label),
+            last: Growing::new(alloc, self.files, label),
+            files: self.files,
         })
     }
 
@@ -156,10 +178,12 @@ impl Reader {
         plain: &mut Vec<u8>,
         line: &[u8],
     ) -> Result<Reader, AllocError>
-        requires { IsYoung self.last }
+        requires young { IsYoung self.last }
+        requires few { self.files < 2 ^ 63 }
         ensures { IfOk result (AddsLine isa line.now self) }
     {
         let mut reader = self.at_label(isa, alloc, label_in_front(line))?;
+        reader.files = files_below(reader.files, line);
         reader.last.add_line(isa, alloc, plain, line)?;
         Ok(reader)
     }

@@ -6,7 +6,7 @@ ghost use Rattle.std.specs.Option.{option_to_list};
 ghost use Rattle.c62_reach.specs.PartRead.{part_read};
 ghost use Rattle.c62_reach.specs.Index.{Indexes};
 ghost use Rattle.c62_reach.specs.Part.{Part as PartOf};
-ghost use Rattle.c62_reach.specs.Reach.{part_named, leads_from, leads_of, Marks};
+ghost use Rattle.c62_reach.specs.Reach.{part_meant, leads_from, leads_of, Marks};
 
 use crate::index::Index;
 use crate::part::Part;
@@ -33,13 +33,18 @@ fn push_named(leads: &mut Vec<usize>, named: Option<usize>) -> Result<(), AllocE
     Ok(())
 }
 
-/// Appends the number of the first part of each of these names, where there is one.
-fn push_all_named(leads: &mut Vec<usize>, index: &Index, names: &[Label]) -> Result<(), AllocError>
-    ensures { (parts : List PartOf) → Indexes parts index.now.labels.entries
-        → OnOk result (leads.new.items ≡ leads.old.items ++ filter_map (λ name. part_named name parts) names.now) }
+/// Appends the number of the part that each of these names means in this file, where there is one.
+fn push_all_named(
+    leads: &mut Vec<usize>,
+    index: &Index,
+    file: usize,
+    names: &[Label],
+) -> Result<(), AllocError>
+    ensures { (parts : List PartOf) → Indexes parts index.now
+        → OnOk result (leads.new.items ≡ leads.old.items ++ filter_map (λ name. part_meant file name parts) names.now) }
 {
     for name in names {
-        push_named(leads, index.part_named(name))?;
+        push_named(leads, index.part_meant(file, name))?;
     }
     Ok(())
 }
@@ -52,13 +57,13 @@ fn push_leads(
     part: &Part,
 ) -> Result<(), AllocError>
     requires { j < 2 ^ 63 }
-    ensures { (parts : List PartOf) → Indexes parts index.now.labels.entries
+    ensures { (parts : List PartOf) → Indexes parts index.now
         → OnOk result (leads.new.items ≡ leads.old.items ++ leads_of parts j (part_read part.now)) }
 {
     if part.runs_on {
         leads.push(j + 1)?;
     }
-    push_all_named(leads, index, &part.names)
+    push_all_named(leads, index, part.file, &part.names)
 }
 
 /// The numbers of the parts to which the part of this number leads.
@@ -68,7 +73,7 @@ fn leads_from(
     index: &Index,
     j: usize,
 ) -> Result<Vec<usize>, AllocError>
-    requires { Indexes (map part_read parts.now) index.now.labels.entries }
+    requires { Indexes (map part_read parts.now) index.now }
     ensures { IfOk result (λ leads. leads.items ≡ leads_from (map part_read parts.now) j) }
 {
     let mut leads = Vec::new(alloc);
@@ -123,7 +128,7 @@ impl Search {
         index: &Index,
         j: usize,
     ) -> Result<(), AllocError>
-        requires { Indexes (map part_read parts.now) index.now.labels.entries }
+        requires { Indexes (map part_read parts.now) index.now }
         ensures { OnOk result (found_of self.new ≡ all_marked (leads_from (map part_read parts.now) j) (found_of self.old)) }
     {
         let leads = leads_from(alloc, parts, index, j)?;
@@ -138,7 +143,7 @@ pub(crate) fn reached_from(
     index: &Index,
     first: usize,
 ) -> Result<Vec<bool>, AllocError>
-    requires indexed { Indexes (map part_read parts.now) index.now.labels.entries }
+    requires indexed { Indexes (map part_read parts.now) index.now }
     requires first { first < length parts.now }
     ensures { IfOk result (λ marks. Marks (map part_read parts.now) first marks.items) }
 {

@@ -122,8 +122,8 @@ fn too_long(alloc: Global, text: &[u8]) -> Result<Vec<u8>, ReachFault>
 
 /// The number of the first part that begins with the label of this name.
 fn first_part(alloc: Global, index: &Index, name: &[u8]) -> Result<Option<usize>, AllocError>
-    ensures part { (parts : List Part) → Indexes parts index.now.labels.entries → IfOk result (λ first. first ≡ first_part name.now parts) }
-    ensures within { (parts : List Part) → Indexes parts index.now.labels.entries → IfOk result (λ first. IfSome first (λ k. k < length parts)) }
+    ensures part { (parts : List Part) → Indexes parts index.now → IfOk result (λ first. first ≡ first_part name.now parts) }
+    ensures within { (parts : List Part) → Indexes parts index.now → IfOk result (λ first. IfSome first (λ k. k < length parts)) }
 {
     let plain = undotted(alloc, name)?;
     if is_label(&plain) {
@@ -170,8 +170,9 @@ fn taken_from(
 
 /// What is taken of a text of packets from the label of this name on, whose dots are read as `_` (docs/ADOPT.md, "Parts of a text"). A text has
 /// a part for each label: all from there up to the next one. The part of the name is taken, and so is each to which one that is taken leads: as an
-/// instruction of it names the label, or as it may run on into it. Their lines stay to the byte, and of the others those stay that begin a section,
-/// set a name, or have a directive that isn't known. All other lines are empty, so that each line has the number that it had.
+/// instruction of it names the label, or as it may run on into it. A name means the first part of its own file with the label, or else the first
+/// one of all; a directive `.file` with a quoted name begins a file. The lines of these parts stay to the byte, and of the others those stay that
+/// begin a section, set a name, or have a directive that isn't known. All other lines are empty, so that each line has the number that it had.
 ///
 /// Of a text of more than [`MOST_BYTES`](c62_adopt_cut::MOST_BYTES) bytes those are taken that show it.
 ///

@@ -6,5 +6,5 @@ use Rattle.c62_reach.proofs.index.Index.part_named.Goals as goal
 
 pub returns-clause-within : goal.returns-clause-within
 returns-clause-within c =
-    let found : c.copied.result ≡ lookup (bytes_eq c.args.name.now) c.args.self.now.labels.entries = search rules in
-    λ parts indexed. within parts c.args.self.now.labels.entries c.args.name.now c.copied.result found indexed
+    let found : c.copied.result ≡ lookup (bytes_eq c.args.name.now) c.args.self.now.first.entries = search rules in
+    λ parts indexed. within parts c.args.self.now c.args.name.now c.copied.result found indexed
