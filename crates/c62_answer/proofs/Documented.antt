@@ -2,7 +2,7 @@
 use Rattle.std.proofs.Common.{None, ◌++◌}
 use Rattle.std.proofs.Common.{◌≡◌, ℕ, Bool, true, false, List, Option, Ok, Err, Result, refl}
 use Rattle.std.proofs.Common.{inr, sym, subst}
-use Rattle.std.specs.Prelude.{codes, slice_get}
+use Rattle.std.specs.Prelude.{codes}
 use Rattle.clap.specs.Words.{Text as Name}
 use Rattle.c62_op.specs.declared.register.Reg.{Reg}
 use Rattle.c62_read.specs.Block.{Serial, labels_in}
@@ -10,10 +10,8 @@ use Rattle.c62_packet.specs.Packed.{Packed}
 use Rattle.c62_packet.specs.Packets.{labels_of}
 use Rattle.c62_reach.specs.Taken.{IsTaken}
 use Rattle.c62_check.specs.Checked.{IsChecked}
-use Rattle.c62_check.specs.Checked.IsChecked.{OtherBlocks as ToldOther, SameBlocks as ToldSame}
-use Rattle.c62_check.specs.Lines.{block_line, lines_from, other_words}
+use Rattle.c62_check.specs.Lines.{told_lines}
 use Rattle.c62_json_check.specs.Checked.{IsCheckDocument}
-use Rattle.c62_json_check.specs.Checked.IsCheckDocument.{OtherBlocks, SameBlocks}
 use Rattle.c62_json_lines.specs.Lines.{lines_document}
 use Rattle.c62_json_loops.specs.Judged.{DocumentsHaveLines, IsLoopsDocument}
 use Rattle.c62_check_loops.specs.Granted.{first_loopless}
@@ -138,12 +136,10 @@ module _ (isa : InstructionSet) (trips : List (Name × ℕ)) (apart : List Reg) 
 -- the lines that a check tells in place of its document
 pub checked_text : (program : List Serial) (packets : List Packed) (answer : List ℕ) (same : Bool)
     → IsCheckDocument program packets answer same → (told : List ℕ) × IsChecked program packets told same
-checked_text program packets answer same (OtherBlocks number first told differs) = (
-  block_line number (other_words (slice_get (labels_of packets) number) (slice_get (labels_in program) number)),
-  ToldOther number first refl differs,
+checked_text program packets answer same is = (
+  told_lines (labels_of packets) (labels_in program) is.others is.verdicts,
+  record { others = is.others; verdicts = is.verdicts; judged = is.judged; told = refl; all = is.all },
 )
-checked_text program packets answer same (SameBlocks labels verdicts are told all) =
-    (lines_from 0 verdicts, ToldSame labels verdicts are refl all)
 
 pub verdicts_documented : (isa : InstructionSet) (form : Form) (input told answer : List ℕ) (same : Bool)
     (is : IsCheck isa form input same told)

@@ -139,10 +139,12 @@ answered_text isa (LoopReport verbose packing trips apart course settings) (Loop
   program = is.program;
   written = is.written;
   looped = looped_all isa packing trips apart all (front most_bytes all) is.program is.written refl is.looped;
-  lines = is.lines;
-  flying = is.flying;
+  read = is.read;
   first = is.first;
   begins = is.begins;
+  flying = is.flying;
+  lined = is.lined;
+  beside = is.beside;
   outcome = is.outcome;
   flown = is.flown;
   ends = is.ends;

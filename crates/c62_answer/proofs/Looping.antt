@@ -1,14 +1,17 @@
 -- Packets of a text whose loops are pipelined, from what each step gave.
-use Rattle.std.proofs.Common.{◌≡◌, ℕ, Bool, List, Some, None, Err, refl, subst, inl, inr}
+use Rattle.std.proofs.Common.{◌≡◌, ◌∙◌, ◌++◌, ℕ, Bool, List, Some, None, Err, ap, refl, subst, inl, inr}
 use Rattle.clap.specs.Words.{Text as Name}
 use Rattle.c62_op.specs.declared.register.Reg.{Reg}
 use Rattle.c62_read.specs.Block.{Serial}
 use Rattle.c62_packet.specs.Packed.{Packed}
 use Rattle.c62_rows.specs.declared.fault.RowsFault.{RowsFault}
+use Rattle.c62_flight.specs.Text.{IsIssuable, Text as FlightText}
+use Rattle.c62_rows.specs.declared.rows.Rows.{Rows}
 use Rattle.c62_rows.specs.declared.text.Begun.{Begun}
 use Rattle.c62_rows.specs.Rows.{text_of}
 use Rattle.c62_rows.specs.Text.{RefusesFrom}
 use Rattle.c62_rows.specs.Told.{BeginsAs}
+use Rattle.c62_rows.proofs.Issuable.{rows_are_issuable}
 use Rattle.c62_check_loops.specs.Granted.{first_loopless}
 use Rattle.c62_command.specs.CommandLine.{Ask, LoopListing, LoopPicture, LoopReport}
 use Rattle.c62_command.specs.declared.command.Drawing.{Drawing}
@@ -17,13 +20,15 @@ use Rattle.c62_command.specs.declared.flight.FlightCourse.{FlightCourse}
 use Rattle.c62_command.specs.declared.setting.Setting.{Setting}
 use Rattle.c62_pipeline.specs.declared.written.Pipelining.{Pipelining}
 use Rattle.c62_pipeline.specs.Checked.{IsWritten}
+use Rattle.c62_pipeline.specs.Lined.{AreLined}
+use Rattle.c62_pipeline.proofs.Lining.{relined_issuable}
 use Rattle.c62_answer.specs.declared.failure.Failure.{Failure}
 use Rattle.c62_answer.specs.declared.failure.Failure.TheVariants as failures
 use Rattle.c62_answer.specs.declared.outcome.Outcome.{Outcome}
 use Rattle.c62_answer.specs.Message.{fault_message, no_loop}
-use Rattle.c62_answer.specs.Looped.{IsLooped, IsUnlooped, told_lines}
-use Rattle.c62_answer.specs.Run.{Gives, GivesProgram, IsFlown, IsLoopReport, IsRefusedText, IsRowsFailure}
-use Rattle.c62_answer.specs.Run.{RefusesLooped, breach_of}
+use Rattle.c62_answer.specs.Looped.{IsLooped, IsReadAgain, IsUnlooped, told_lines}
+use Rattle.c62_answer.specs.Run.{Gives, GivesProgram, IsFlown, IsLoopReport, IsRefusedText, IsRowsFailure, IsToldBeside}
+use Rattle.c62_answer.specs.Run.{RefusesLooped, TellsFlightFaults, TellsIf, breach_of}
 use Rattle.c62_answer.specs.Schedule.{AreScheduled}
 use Rattle.c62_answer.specs.Texts.{SaysProgram}
 use Rattle.c62_answer.proofs.OneText.{one_program}
@@ -138,26 +143,57 @@ unread_again isa verbose packing trips apart course settings text program writte
       told = refl;
     }))
 
--- it is, and this is its run
+-- it is, in the lines of the program
+pub again_lined : (isa : InstructionSet) (program : List Serial) (written : Pipelining) (begun : Begun) (rows : Rows)
+    → BeginsAs isa written.text.items None begun → AreLined program (text_of begun.rows) (text_of rows)
+    → IsReadAgain isa program written (record { rows = rows; first = begun.first; labels = begun.labels })
+again_lined isa program written begun rows begins lined = record {
+  read = text_of begun.rows;
+  begins = begins.is_text;
+  named = begins.named;
+  lined = lined;
+  issuable = relined_issuable (text_of begun.rows) (text_of rows) lined.relined
+      (rows_are_issuable begun.rows begins.rows);
+}
+
+pub is_issuable : (isa : InstructionSet) (program : List Serial) (written : Pipelining) (begun : Begun)
+    → IsReadAgain isa program written begun → IsIssuable (text_of begun.rows)
+is_issuable isa program written begun again = again.issuable
+
+-- what is told beside it
+pub told_beside_it : (verbose : Bool) (program : List Serial) (written : Pipelining) (flying : FlightText) (first : ℕ)
+    (course : FlightCourse) (settings : List Setting) (lines accesses told : List ℕ)
+    → lines ≡ told_lines verbose program written
+    → TellsIf course.strict (TellsFlightFaults flying first settings course accesses) accesses
+    → told ≡ lines ++ accesses → IsToldBeside verbose program written flying first course settings told
+told_beside_it verbose program written flying first course settings lines accesses told are tells all = record {
+  accesses = accesses;
+  tells = tells;
+  all = all ∙ ap (λ (front : List ℕ). front ++ accesses) are;
+}
+
+-- and this is its run
 pub loops_flown : (isa : InstructionSet) (verbose : Bool) (packing : Packing) (trips : List (Name × ℕ))
     (apart : List Reg)
     (course : FlightCourse) (settings : List Setting) (told text answer : List ℕ) (program : List Serial)
     (written : Pipelining) (begun : Begun) (outcome : Outcome)
-    → IsLooped isa packing trips apart text program written → told ≡ told_lines verbose program written
-    → BeginsAs isa written.text.items None begun
+    → IsLooped isa packing trips apart text program written → IsReadAgain isa program written begun
+    → IsToldBeside verbose program written (text_of begun.rows) begun.first course settings told
     → IsFlown (text_of begun.rows) begun.labels.entries begun.first settings course outcome answer
     → IsLoopReport isa verbose packing trips apart course settings told (breach_of outcome) text answer
-loops_flown isa verbose packing trips apart course settings told text answer program written begun outcome looped lines
-    begins flown = record {
+loops_flown isa verbose packing trips apart course settings told text answer program written begun outcome looped again
+    beside flown = record {
       program = program;
       written = written;
       looped = looped;
-      lines = lines;
-      flying = text_of begun.rows;
+      read = again.read;
       first = begun.first;
-      begins = begins.is_text;
+      begins = again.begins;
+      flying = text_of begun.rows;
+      lined = again.lined;
+      beside = beside;
       outcome = outcome;
       flown = subst (λ (labels : List (Name × ℕ)).
-          IsFlown (text_of begun.rows) labels begun.first settings course outcome answer) begins.named flown;
+          IsFlown (text_of begun.rows) labels begun.first settings course outcome answer) again.named flown;
       ends = refl;
     }

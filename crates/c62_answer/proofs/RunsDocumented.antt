@@ -22,8 +22,9 @@ use Rattle.c62_answer.specs.declared.failure.Failure.{Failure}
 use Rattle.c62_answer.specs.declared.outcome.Outcome.{Outcome}
 use Rattle.c62_answer.specs.declared.outcome.Breach.{Breach}
 use Rattle.c62_answer.specs.declared.outcome.Outcome.TheVariants.{Looped}
-use Rattle.c62_answer.specs.Looped.{IsLooped, told_lines}
-use Rattle.c62_answer.specs.Run.{Gives, IsAnswer, RefusesLooped, TellsOfFlight, TellsOfPackets, TellsOfRun, breach_of}
+use Rattle.c62_answer.specs.Looped.{IsLooped, IsReadAgain}
+use Rattle.c62_answer.specs.Run.{Gives, IsAnswer, IsToldBeside, RefusesLooped, TellsOfFlight, TellsOfPackets, TellsOfRun}
+use Rattle.c62_answer.specs.Run.{breach_of}
 use Rattle.c62_answer.specs.Schedule.{AreScheduled}
 use Rattle.c62_answer.specs.Texts.{SaysPackets, SaysProgram}
 use Rattle.c62_answer.proofs.Answering.{flight_text}
@@ -94,25 +95,27 @@ pub loops_documented : (isa : InstructionSet) (verbose : Bool) (packing : Packin
     (course : FlightCourse) (settings : List Given) (told : Vec ℕ Global) (text answer : List ℕ) (program : List Serial)
     (written : Pipelining) (begun : Begun) (outcome : Outcome) (has : Option Breach)
     → has ≡ breach_of outcome → IsLooped isa packing trips apart text program written
-    → told.items ≡ told_lines verbose program written
-    → BeginsAs isa written.text.items None begun
+    → IsReadAgain isa program written begun
+    → IsToldBeside verbose program written (text_of begun.rows) begun.first course settings told.items
     → TellsOfFlight (codes "run") (text_of begun.rows) begun.labels.entries begun.first settings course outcome answer
     → IsAnswer isa (Document (LoopReport verbose packing trips apart course settings)) (Looped told has) text
     answer
 loops_documented isa verbose packing trips apart course settings told text answer program written begun outcome has ends
-    looped lines begins tells =
+    looped again beside tells =
     let moved = subst (λ (labels : List (Label × ℕ)).
-    TellsOfFlight (codes "run") (text_of begun.rows) labels begun.first settings course outcome answer) begins.named
+    TellsOfFlight (codes "run") (text_of begun.rows) labels begun.first settings course outcome answer) again.named
     tells in (
       moved.0,
       record {
         program = program;
         written = written;
         looped = looped;
-        lines = lines;
-        flying = text_of begun.rows;
+        read = again.read;
         first = begun.first;
-        begins = begins.is_text;
+        begins = again.begins;
+        flying = text_of begun.rows;
+        lined = again.lined;
+        beside = beside;
         outcome = outcome;
         flown = moved.1;
         ends = ends;

@@ -6,12 +6,16 @@ use Rattle.c62_read.specs.Block.{Serial}
 use Rattle.c62_packet.specs.Packed.{Packed}
 use Rattle.c62_rows.specs.declared.fault.RowsFault.{RowsFault}
 use Rattle.c62_rows.specs.declared.fault.RowsFault.TheVariants.{Memory as NoPlace}
-use Rattle.c62_rows.specs.Text.{RefusesFrom}
+use Rattle.c62_flight.specs.Text.{IsIssuable, Text as FlightText}
+use Rattle.c62_rows.specs.declared.text.Begun.{Begun}
+use Rattle.c62_rows.specs.Rows.{text_of}
+use Rattle.c62_rows.specs.Text.{IsTextFrom, RefusesFrom}
 use Rattle.c62_check_loops.specs.Granted.{first_loopless}
 use Rattle.c62_command.specs.declared.command.Drawing.{Drawing}
 use Rattle.c62_command.specs.declared.command.Packing.{Packing}
 use Rattle.c62_pipeline.specs.declared.written.Pipelining.{Pipelining}
 use Rattle.c62_pipeline.specs.Checked.{IsWritten}
+use Rattle.c62_pipeline.specs.Lined.{AreLined}
 use Rattle.c62_pipeline.specs.Lines.{loop_lines}
 use Rattle.c62_answer.specs.Drawing.{loop_drawing}
 use Rattle.c62_answer.specs.Message.{no_loop, rows_message}
@@ -47,6 +51,14 @@ pub record IsLoopPicture (isa : InstructionSet) (drawing : Drawing) (packing : P
   pub written : Pipelining
   pub looped : IsLooped isa packing trips apart text program written
   pub drawn : answer ≡ loop_drawing drawing text program written
+
+-- what is read of such packets, in the lines of the program
+pub record IsReadAgain (isa : InstructionSet) (program : List Serial) (written : Pipelining) (begun : Begun) : Type 0 where
+  pub read : FlightText
+  pub begins : IsTextFrom isa written.text.items None read begun.first
+  pub named : begun.labels.entries ≡ begins.labels
+  pub lined : AreLined program read (text_of begun.rows)
+  pub issuable : IsIssuable (text_of begun.rows)
 
 -- ---- refusals
 

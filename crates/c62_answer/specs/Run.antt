@@ -1,5 +1,6 @@
 -- What the program does to its streams.
 use Rattle.std.specs.Prelude.{◌≡◌, ◌≢◌, ◌⊎◌, ℕ, ◌+◌, ◌<◌, ◌≤◌, Bool, true, false, List, [], ◌∷◌, ◌++◌, length, take, fold, codes, Option, Some, None, Result, IfSome, Ok, Err}
+use Rattle.std.specs.List.{flat_map}
 use Rattle.std.specs.Io.KnownBytes.{Appends, Consumes, Keeps}
 use Rattle.std.specs.Option.{IsSomeAnd}
 use Rattle.clap.specs.Words.{Text}
@@ -83,6 +84,10 @@ use Rattle.c62_answer.specs.Texts.{SaysProgram, SaysPackets, SaysNoPackets, IsNo
 use Rattle.c62_answer.specs.Check.{IsCheck, IsNoCheck}
 use Rattle.c62_answer.specs.LoopCheck.{IsFlying, IsLoopCheck, IsNoLoopCheck}
 use Rattle.c62_answer.specs.Looped.{IsLooped, IsLoopListing, IsLoopPicture, IsUnlooped, IsUnread, told_lines}
+use Rattle.c62_faulted.specs.declared.fault.Fault.{Fault}
+use Rattle.c62_faulted.specs.Sentence.{fault_text}
+use Rattle.c62_faulted_packets.specs.Flight.{FindsFlightFaults}
+use Rattle.c62_pipeline.specs.Lined.{AreLined}
 use Rattle.c62_op.specs.declared.register.Reg.{Reg}
 use Rattle.c62_pipeline.specs.declared.written.Pipelining.{Pipelining}
 use Rattle.c62_printing.specs.Printing.{prints}
@@ -347,16 +352,47 @@ pub record IsFlightReport (isa : InstructionSet) (course : FlightCourse) (from :
   pub named : IsText isa (code_in (code_read isa text)) flying labels
   pub flown : IsFlown flying labels first settings course outcome answer
 
+-- ---- accesses that fault
+
+-- Of a run from zeros with these settings that finds its faults so: a line for each line's first fault.
+pub record TellsRunBy (Finds : Machine → List Fault → Type 0) (settings : List Given) (more : List ℕ) : Type 0 where
+  pub opening : Machine
+  pub begin : IsOpening settings opening
+  pub faults : List Fault
+  pub found : Finds opening faults
+  pub told : more ≡ flat_map (fault_text opening.base) faults
+
+-- so it is of a run of a text of packets in flight, from this row on
+abbrev pub TellsFlightFaults : FlightText → (first : ℕ) → List Given → FlightCourse → (more : List ℕ) → Type 0
+TellsFlightFaults flying first settings course more =
+    TellsRunBy (λ opening faults. FindsFlightFaults flying first course.cycles opening faults) settings more
+
+-- of a strict run this is told, and of another nothing
+abbrev pub TellsIf : (strict : Bool) → Type 0 → (more : List ℕ) → Type 0
+TellsIf false Told more = more ≡ []
+TellsIf true Told more = Told
+
+-- ---- runs of packets whose loops are pipelined
+
+-- what is told beside such a run: of the loops, and where it is strict of the accesses that fault
+pub record IsToldBeside (verbose : Bool) (program : List Serial) (written : Pipelining) (flying : FlightText) (first : ℕ) (course : FlightCourse) (settings : List Given) (told : List ℕ) : Type 0 where
+  pub accesses : List ℕ
+  pub tells : TellsIf course.strict (TellsFlightFaults flying first settings course accesses) accesses
+  pub all : told ≡ told_lines verbose program written ++ accesses
+
 -- Packets are written of the text whose loops are pipelined where so much is promised, and this is the report of their run with everything in
--- flight; and this is told of the loops, and the run has this that a strict one doesn't take.
+-- flight, in which their instructions stand in the lines of the text; and this is told beside it, and the run has this that a strict one doesn't
+-- take.
 pub record IsLoopReport (isa : InstructionSet) (verbose : Bool) (packing : Packing) (trips : List (Text × ℕ)) (apart : List Reg) (course : FlightCourse) (settings : List Given) (told : List ℕ) (has : Option Breach) (text answer : List ℕ) : Type 0 where
   pub program : List Serial
   pub written : Pipelining
   pub looped : IsLooped isa packing trips apart text program written
-  pub lines : told ≡ told_lines verbose program written
-  pub flying : FlightText
+  pub read : FlightText
   pub first : ℕ
-  pub begins : IsTextFrom isa written.text.items None flying first
+  pub begins : IsTextFrom isa written.text.items None read first
+  pub flying : FlightText
+  pub lined : AreLined program read flying
+  pub beside : IsToldBeside verbose program written flying first course settings told
   pub outcome : Outcome
   pub flown : IsFlown flying begins.labels first settings course outcome answer
   pub ends : has ≡ breach_of outcome

@@ -97,7 +97,7 @@ pub fn verdicts(
     };
     let program = text_part(isa, alloc, parts.text)?;
     let packets = packets_part(isa, alloc, form, parts.listing)?;
-    let checked = check(alloc, program, &packets)?;
+    let checked = check(alloc, &program, &packets)?;
     // It tells that packets that are the same run as the program.
     checked_packets_are_serial();
     Ok(Reply {

@@ -135,7 +135,7 @@ pub(crate) fn verdicts_document(
     };
     let program = text_part(isa, alloc, parts.text)?;
     let packets = packets_part(isa, alloc, form, parts.listing)?;
-    let checked = check_document(alloc, program, &packets)?;
+    let checked = check_document(alloc, &program, &packets)?;
     // It tells that packets that are the same run as the program.
     checked_packets_are_serial();
     Ok(Reply {

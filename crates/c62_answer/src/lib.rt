@@ -20,6 +20,7 @@ mod run;
 mod run_documents;
 mod schedule;
 mod standing;
+mod strict;
 mod tool;
 mod writing;
 

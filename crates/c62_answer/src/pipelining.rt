@@ -1,17 +1,20 @@
 //! Answers of packets whose loops are pipelined (docs/SCHEDULING.md, "Loops of a program").
 
-ghost use Rattle.std.specs.Prelude.{◌≡◌, map, IfOk, IfErr, IsTrue, None, List, ℕ};
+ghost use Rattle.std.specs.Prelude.{◌≡◌, map, IfOk, IfErr, IsTrue, MatchResult, None, List, ℕ};
 ghost use Rattle.clap.specs.Words.{Text as Name};
 ghost use Rattle.c62_op.specs.declared.register.Reg.{Reg as Register};
 ghost use Rattle.c62_packet.specs.Packets.{is_closed};
+ghost use Rattle.c62_flight.specs.Text.{IsIssuable};
+ghost use Rattle.c62_rows.specs.Rows.{text_of};
+ghost use Rattle.c62_rows.specs.Text.{RefusesFrom};
 ghost use Rattle.c62_rows.specs.Told.{BeginsAs};
 ghost use Rattle.c62_check_loops.specs.Granted.{first_loopless};
 ghost use Rattle.c62_command.specs.CommandLine.{LoopListing, LoopPicture, LoopReport};
 ghost use Rattle.c62_command.specs.Promises.{trips_of};
 ghost use Rattle.c62_command.specs.declared.command.Packing.{Packing as Packed};
 ghost use Rattle.c62_answer.specs.Drawing.{loop_drawing};
-ghost use Rattle.c62_answer.specs.Looped.{IsLooped, told_lines};
-ghost use Rattle.c62_answer.specs.Run.{Gives, IsAnswer, RefusesLooped};
+ghost use Rattle.c62_answer.specs.Looped.{IsLooped, IsReadAgain, told_lines};
+ghost use Rattle.c62_answer.specs.Run.{Gives, IsAnswer, IsToldBeside, RefusesLooped, TellsFlightFaults, TellsIf};
 ghost use Rattle.c62_answer.specs.Schedule.{AreScheduled};
 ghost use Rattle.c62_answer.specs.Texts.{SaysProgram};
 
@@ -20,14 +23,15 @@ use crate::exec::flown;
 use crate::failure::Failure;
 use crate::outcome::{Outcome, Reply};
 use crate::schedule::{packets_by_turns, packets_by_workers};
+use crate::strict::flight_faults;
 use c62_check_loops::first_loopless;
 use c62_command::{Drawing, Flight, Looping, Packing, Promises};
 use c62_op::InstructionSet;
 use c62_packet::Packets;
 use c62_page_loops::loops_page;
-use c62_pipeline::{Pipelining, kernels, loop_lines, pipeline};
+use c62_pipeline::{Origin, Pipelining, kernels, lined, loop_lines, origins_of, pipeline};
 use c62_read::Program;
-use c62_rows::{Begun, read_from};
+use c62_rows::{Begun, RowsFault, read_from};
 use std::alloc::{AllocError, Global};
 use std::sync::Wait;
 use std::thread::Threads;
@@ -75,6 +79,8 @@ pub(crate) fn packed<H: AllocGlobal + Threads + Wait + Sync>(
 pub(crate) struct Looped {
     pub program: Program,
     pub written: Pipelining,
+    /// Where the program's instructions stand of which those of the packets are instances.
+    pub origins: Vec<Origin>,
 }
 
 /// The packets of a text whose loops are pipelined.
@@ -99,11 +105,16 @@ pub(crate) fn make_looped<H: AllocGlobal + Threads + Wait + Sync>(
     };
     let packets = packed(rt, again, looping.packing)?;
     let written = pipeline(isa, rt.alloc(), &program, &packets, &looping.promises)?;
-    Ok(Looped { program, written })
+    let origins = origins_of(rt.alloc(), &packets, &written)?;
+    Ok(Looped {
+        program,
+        written,
+        origins,
+    })
 }
 
 /// What is told of loops, where that is asked for.
-pub(crate) fn told_lines(
+fn told_lines(
     alloc: Global,
     verbose: bool,
     program: &Program,
@@ -129,7 +140,11 @@ fn listed(
         → IsLooped isa packing trips apart text looped.program looped.written
         → IfOk result (λ reply. IsAnswer isa (LoopListing verbose packing trips apart) reply.outcome text reply.text.items) }
 {
-    let Looped { program, written } = looped;
+    let Looped {
+        program,
+        written,
+        ..
+    } = looped;
     let told = told_lines(alloc, verbose, &program, &written)?;
     Ok(Reply {
         text: written.text,
@@ -214,8 +229,70 @@ pub(crate) fn loop_picture<H: AllocGlobal + Threads + Wait + Sync>(
     }
 }
 
+/// What was read of these packets, in the lines of the serial text.
+fn in_lines(
+    isa: InstructionSet,
+    alloc: Global,
+    looped: &Looped,
+    begun: Begun,
+) -> Result<Begun, AllocError>
+    requires { BeginsAs isa looped.now.written.text.items None begun }
+    ensures { IfOk result (IsReadAgain isa looped.now.program looped.now.written) }
+{
+    let blocks = looped.program.blocks();
+    let rows = lined(alloc, blocks, &looped.origins, &begun.rows)?;
+    Ok(Begun { rows, ..begun })
+}
+
+/// These packets, read again, in the lines of the serial text.
+pub(crate) fn read_again(
+    isa: InstructionSet,
+    alloc: Global,
+    looped: &Looped,
+) -> Result<Begun, RowsFault>
+    ensures { MatchResult result (IsReadAgain isa looped.now.program looped.now.written) (RefusesFrom isa looped.now.written.text.items None) }
+{
+    match read_from(isa, alloc, &looped.written.text, None) {
+        Ok(begun) => Ok(in_lines(isa, alloc, looped, begun)?),
+        Err(fault) => Err(fault),
+    }
+}
+
+/// The accesses that fault in a run of these packets, a line each, where it is strict.
+fn accesses_told(alloc: Global, begun: &Begun, flight: &Flight) -> Result<Vec<u8>, AllocError>
+    requires { IsIssuable (text_of begun.now.rows) }
+    ensures { IfOk result (λ accesses. TellsIf flight.now.course.strict
+        (TellsFlightFaults (text_of begun.now.rows) begun.now.first flight.now.settings.items flight.now.course accesses.items) accesses.items) }
+{
+    if flight.course.strict {
+        flight_faults(alloc, begun, flight)
+    } else {
+        Ok(Vec::new(alloc))
+    }
+}
+
+/// What is told beside the report of a run of these packets: of their loops, and of the accesses that fault where it is strict.
+#[tactic(auto, using(crate::proofs::Looping::is_issuable, crate::proofs::Looping::told_beside_it))]
+pub(crate) fn told_beside(
+    isa: InstructionSet,
+    alloc: Global,
+    verbose: bool,
+    looped: &Looped,
+    begun: &Begun,
+    flight: &Flight,
+) -> Result<Vec<u8>, AllocError>
+    requires { IsReadAgain isa looped.now.program looped.now.written begun.now }
+    ensures { IfOk result (λ told. IsToldBeside verbose looped.now.program looped.now.written (text_of begun.now.rows) begun.now.first
+        flight.now.course flight.now.settings.items told.items) }
+{
+    let mut told = told_lines(alloc, verbose, &looped.program, &looped.written)?;
+    let accesses = accesses_told(alloc, begun, flight)?;
+    told.extend_from_slice(&accesses)?;
+    Ok(told)
+}
+
 /// The report of a run of these packets, which begins so, and what is told of their loops.
-#[tactic(auto, using(crate::proofs::Looping::loops_flown))]
+#[tactic(auto, using(crate::proofs::Looping::is_issuable, crate::proofs::Looping::loops_flown))]
 fn reported(
     isa: InstructionSet,
     alloc: Global,
@@ -224,12 +301,12 @@ fn reported(
     begun: &Begun,
     flight: &Flight,
 ) -> Result<Reply, AllocError>
-    requires { BeginsAs isa looped.now.written.text.items None begun.now }
+    requires { IsReadAgain isa looped.now.program looped.now.written begun.now }
     ensures { (packing : Packed) (trips : List (Name × ℕ)) (apart : List Register) (text : List ℕ)
         → IsLooped isa packing trips apart text looped.now.program looped.now.written
         → IfOk result (λ reply. IsAnswer isa (LoopReport verbose packing trips apart flight.now.course flight.now.settings.items) reply.outcome text reply.text.items) }
 {
-    let told = told_lines(alloc, verbose, &looped.program, &looped.written)?;
+    let told = told_beside(isa, alloc, verbose, looped, begun, flight)?;
     let reply = flown(alloc, begun, &flight.settings, flight.course)?;
     Ok(Reply {
         text: reply.text,
@@ -250,7 +327,7 @@ fn run_again(
         → IsLooped isa packing trips apart text looped.now.program looped.now.written
         → Gives isa (LoopReport verbose packing trips apart flight.now.course flight.now.settings.items) text result }
 {
-    match read_from(isa, alloc, &looped.written.text, None) {
+    match read_again(isa, alloc, looped) {
         Ok(begun) => Ok(reported(isa, alloc, verbose, looped, &begun, flight)?),
         Err(fault) => Err(Failure::from(fault)),
     }

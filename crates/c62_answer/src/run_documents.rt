@@ -5,7 +5,7 @@ ghost use Rattle.std.specs.Option.{option_copied};
 ghost use Rattle.clap.specs.Words.{Text as Name};
 ghost use Rattle.c62_op.specs.declared.register.Reg.{Reg as Register};
 ghost use Rattle.c62_answer.specs.Run.{Gives, IsAnswer, IsCounted, TellsOfPackets, TellsOfRun, TellsOfFlight};
-ghost use Rattle.c62_answer.specs.Looped.{IsLooped};
+ghost use Rattle.c62_answer.specs.Looped.{IsLooped, IsReadAgain};
 ghost use Rattle.c62_command.specs.CommandLine.{Document, FlightReport, LoopReport, PacketReport, Reaching, SerialReport, StandingReport, flight_asked};
 ghost use Rattle.c62_command.specs.Promises.{trips_of};
 ghost use Rattle.c62_command.specs.declared.command.Packing.{Packing as Packed};
@@ -25,7 +25,7 @@ use crate::exec::{is_flight_limit, name_of};
 use crate::failure::Failure;
 use crate::outcome::{Outcome, Reply};
 use crate::packets::packets_in;
-use crate::pipelining::{Looped, make_looped, packed, told_lines};
+use crate::pipelining::{Looped, make_looped, packed, read_again, told_beside};
 use crate::reaching::taken_from;
 use crate::run::{is_limit, opening};
 use c62_adopt::read_code;
@@ -308,6 +308,7 @@ pub(crate) fn exec_document(
 }
 
 /// The document of a run of packets of a text whose loops are pipelined, which begin so, and what is told of their loops.
+#[tactic(auto, using(crate::proofs::Looping::is_issuable))]
 fn loops_told(
     isa: InstructionSet,
     alloc: Global,
@@ -316,12 +317,12 @@ fn loops_told(
     begun: &Begun,
     flight: &Flight,
 ) -> Result<Reply, AllocError>
-    requires { BeginsAs isa looped.now.written.text.items None begun.now }
+    requires { IsReadAgain isa looped.now.program looped.now.written begun.now }
     ensures { (packing : Packed) (trips : List (Name × ℕ)) (apart : List Register) (text : List ℕ)
         → IsLooped isa packing trips apart text looped.now.program looped.now.written
         → IfOk result (λ reply. IsAnswer isa (Document (LoopReport verbose packing trips apart flight.now.course flight.now.settings.items)) reply.outcome text reply.text.items) }
 {
-    let told = told_lines(alloc, verbose, &looped.program, &looped.written)?;
+    let told = told_beside(isa, alloc, verbose, looped, begun, flight)?;
     let reply = flight_told(alloc, "run", begun, &flight.settings, flight.course)?;
     Ok(Reply {
         text: reply.text,
@@ -341,7 +342,7 @@ fn loops_run(
         → IsLooped isa packing trips apart text looped.now.program looped.now.written
         → Gives isa (Document (LoopReport verbose packing trips apart flight.now.course flight.now.settings.items)) text result }
 {
-    match read_from(isa, alloc, &looped.written.text, None) {
+    match read_again(isa, alloc, looped) {
         Ok(begun) => Ok(loops_told(isa, alloc, verbose, looped, &begun, flight)?),
         Err(fault) => Err(Failure::from(fault)),
     }

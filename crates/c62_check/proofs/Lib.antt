@@ -7,7 +7,7 @@ pub mod Distinct
 pub mod OneNumbering
 pub mod Exact
 pub mod Others
-pub mod Telling
+pub mod Beside
 pub mod Serially
 pub mod PlacedSpots
 pub mod Least

@@ -11,11 +11,13 @@ use Rattle.c62_packet.specs.Packets.{labels_of}
 use Rattle.c62_check.specs.declared.early.Early.{Early}
 use Rattle.c62_check.specs.declared.verdict.Verdict.{Verdict as Answer}
 use Rattle.c62_check.specs.declared.verdict.Verdict.TheVariants.{Same, Missing, Extra, TooEarly}
-use Rattle.c62_check.specs.Checked.{AreVerdicts, HasOneText, IsChecked, IsFirstOther, OtherBlocks, SameBlocks}
-use Rattle.c62_check.specs.Lines.{block_line, early_words, lines_from, other_words, verdict_lines}
+use Rattle.c62_check.specs.Judged.{AreVerdicts, all_same}
+use Rattle.c62_check.specs.Checked.{HasOneText, IsChecked}
+use Rattle.c62_check.specs.Lines.{block_line, early_words, lines_from, other_line, told_lines, verdict_lines}
 use Rattle.c62_check.specs.Verdict.{IsSameVerdict, is_same}
 use Rattle.c62_check.proofs.OneVerdict.{one_verdict}
-use Rattle.c62_check.proofs.Serially.{as_many, holds_at, there}
+use Rattle.c62_check.proofs.Others.{same_others}
+use Rattle.c62_check.proofs.Serially.{holds_at, there}
 
 same_lines : (number : ℕ) (one other : Answer) → IsSameVerdict one other
     → verdict_lines number one ≡ verdict_lines number other
@@ -70,31 +72,20 @@ alike number (one ∷ ones) (other ∷ others) long are =
     let rest = alike (number + 1) ones others (omega (arith, long)) (λ k x y at also. are (suc k) x y at also) in
     (rw (same_lines number one other first, rest.0) refl, rw (same_word one other first, rest.1) refl)
 
--- the first block that differs is one
-not_before : (program : List Serial) (packets : List Packed) (one other : ℕ) → IsFirstOther program packets one
-    → IsFirstOther program packets other → one < other → ⊥
-not_before program packets one other a b less = a.differs (b.before one less)
-
-one_first : (program : List Serial) (packets : List Packed) (one other : ℕ) → IsFirstOther program packets one
-    → IsFirstOther program packets other → one ≡ other
-one_first program packets one other a b = elim (cases_lt one other) [
-  | inl lt ↦ absurd (not_before program packets one other a b lt)
-  | inr ge ↦ elim (cases_lt other one) [
-    | inl lt ↦ absurd (not_before program packets other one b a lt)
-    | inr le ↦ omega (arith, ge, le)
-  ]
-]
+all_alike : (others : List ℕ) (ones also : List Answer) → list_all is_same ones ≡ list_all is_same also
+    → all_same others ones ≡ all_same others also
+all_alike [] ones also e = e
+all_alike (number ∷ others) ones also e = refl
 
 module _ (program : List Serial) (packets : List Packed) (blocks : All (λ block. IsTrue (is_block block.insns)) program)
     (sound : All IsPacketBlock packets) where
-  verdicts_alike : (ones others : List Answer) → labels_of packets ≡ labels_in program
-      → AreVerdicts program packets ones → AreVerdicts program packets others
+  verdicts_alike : (ones others : List Answer) → AreVerdicts program packets ones → AreVerdicts program packets others
       → AreAlike ones others
-  verdicts_alike ones others labels a b k one other at also =
+  verdicts_alike ones others a b k one other at also =
       let inside = slice_get_within ones k one at in
-      let many = as_many program packets labels in
-      let block = there program k (omega (arith, inside, a.count)) in
-      let packed = there packets k (omega (arith, inside, a.count, many)) in
+      let count = a.count in
+      let block = there program k (omega (arith, inside, count)) in
+      let packed = there packets k (omega (arith, inside, count)) in
       one_verdict block.0 packed.0 (holds_at (λ each. IsTrue (is_block each.insns)) program k block.0 blocks block.1)
       (holds_at IsPacketBlock packets k packed.0 sound packed.1) one other
       (a.each k block.0 packed.0 one block.1 packed.1 at)
@@ -103,20 +94,19 @@ module _ (program : List Serial) (packets : List Packed) (blocks : All (λ block
   one_text_of : (text other : List ℕ) (same also : Bool) → IsChecked program packets text same
       → IsChecked program packets other also
       → (text ≡ other) × (same ≡ also)
-  one_text_of text other same also (OtherBlocks n first told no_same) (OtherBlocks m second words no_also) =
-      let number = one_first program packets n m first second in (
-        told ∙ (ap (λ (k : ℕ). block_line k
-            (other_words (slice_get (labels_of packets) k) (slice_get (labels_in program) k))) number
-            ∙ sym words),
-        no_same ∙ sym no_also,
+  one_text_of text other same also a b =
+      let numbers : a.others ≡ b.others = same_others program packets a.others b.others a.judged.are_others b.judged.are_others in
+      let both = alike 0 a.verdicts b.verdicts (a.judged.are_verdicts.count ∙ sym b.judged.are_verdicts.count)
+      (verdicts_alike a.verdicts b.verdicts a.judged.are_verdicts b.judged.are_verdicts) in
+      let listed = labels_of packets in
+      let labels = labels_in program in (
+        a.told
+            ∙ (ap (λ (ns : List ℕ). told_lines listed labels ns a.verdicts) numbers
+            ∙ (ap (λ (ls : List ℕ). flat_map (λ n. other_line listed labels n) b.others ++ ls) both.0 ∙ sym b.told)),
+        a.all
+            ∙ (ap (λ (ns : List ℕ). all_same ns a.verdicts) numbers
+            ∙ (all_alike b.others a.verdicts b.verdicts both.1 ∙ sym b.all)),
       )
-  one_text_of text other same also (OtherBlocks n first told no_same) (SameBlocks labels verdicts are words is) =
-      absurd (first.differs (ap (λ ls. slice_get ls n) labels))
-  one_text_of text other same also (SameBlocks labels verdicts are words is) (OtherBlocks n first told no_same) =
-      absurd (first.differs (ap (λ ls. slice_get ls n) labels))
-  one_text_of text other same also (SameBlocks labels ones a told is) (SameBlocks equal others b words is_also) =
-      let both = alike 0 ones others (a.count ∙ sym b.count) (verdicts_alike ones others labels a b) in
-      (told ∙ (both.0 ∙ sym words), is ∙ (both.1 ∙ sym is_also))
 
 pub one_text : (program : List Serial) (packets : List Packed) → HasOneText program packets
 one_text program packets blocks sound text other same also a b = one_text_of program packets blocks sound text other

@@ -29,7 +29,7 @@ none_below block placed early e = subst (λ (es : List Early). AreEarlyBelow blo
   others = λ j low. absurd (omega (arith, low));
 })
 
-rising_push : (xs : List ℕ) (n : ℕ) → IsStrictlyIncreasing xs → ((k : ℕ) → k < length xs → get_or xs k 0 < n)
+pub rising_push : (xs : List ℕ) (n : ℕ) → IsStrictlyIncreasing xs → ((k : ℕ) → k < length xs → get_or xs k 0 < n)
     → IsStrictlyIncreasing (xs ++ n ∷ [])
 rising_push xs n rising below k inside =
     let long = length-append xs (n ∷ []) in
@@ -48,7 +48,7 @@ rising_push xs n rising below k inside =
           omega (arith, one, other, less))
     ]
 
-below_push : (xs : List ℕ) (n : ℕ) → ((k : ℕ) → k < length xs → get_or xs k 0 < n) → (k : ℕ) → k < length (xs ++ n ∷ [])
+pub below_push : (xs : List ℕ) (n : ℕ) → ((k : ℕ) → k < length xs → get_or xs k 0 < n) → (k : ℕ) → k < length (xs ++ n ∷ [])
     → get_or (xs ++ n ∷ []) k 0 < n + 1
 below_push xs n below k inside =
     let long = length-append xs (n ∷ []) in

@@ -18,11 +18,12 @@ use Rattle.c62_check.specs.declared.verdict.Verdict.{Verdict}
 use Rattle.c62_check.specs.declared.verdict.Verdict.TheVariants.{Same, Missing, Extra, TooEarly}
 use Rattle.c62_check.specs.Schedule.{IsSchedule}
 use Rattle.c62_check.specs.Verdict.{IsVerdict, is_same}
-use Rattle.c62_check.specs.Checked.{IsChecked, AreVerdicts, HaveNumberings, SaysSame}
-use Rattle.c62_check.specs.Checked.IsChecked.{OtherBlocks, SameBlocks}
+use Rattle.c62_check.specs.Judged.{AreOthers, AreVerdicts, IsOther, all_same}
+use Rattle.c62_check.specs.Checked.{IsChecked, HaveNumberings, SaysSame}
 use Rattle.c62_check.specs.Serial.{RunAsProgram, CheckedAreSerial}
 use Rattle.c62_check.proofs.Lined.{schedules_packed}
 use Rattle.c62_check.proofs.Exact.{is_exact}
+use Rattle.c62_check.proofs.Others.{same_labels}
 
 -- ---- lists
 
@@ -72,8 +73,9 @@ are_schedules : (program : List Serial) (packets : List Packed) (verdicts : List
     → AreSchedules program packets
 are_schedules program packets verdicts are all number block packed at_block at_packed =
     let within = slice_get_within program number block at_block in
+    let beside = slice_get_within packets number packed at_packed in
     let count = are.count in
-    let own = there verdicts number (omega (arith, within, count)) in
+    let own = there verdicts number (omega (arith, within, beside, count)) in
     schedule_of block packed own.0 (all_at is_same verdicts number own.0 all own.1)
     (are.each number block packed own.0 at_block at_packed own.1)
 
@@ -149,12 +151,33 @@ run_as program lined packets opening limit alike are sound = record {
       ));
 }
 
+-- ---- where all is the same
+
+-- then no block differs, and each verdict is that the packets are a schedule
+parts_same : (others : List ℕ) (verdicts : List Verdict) → all_same others verdicts ≡ true
+    → (others ≡ []) × (list_all is_same verdicts ≡ true)
+parts_same [] verdicts e = (refl, e)
+parts_same (number ∷ others) verdicts e = absurd cc
+
+-- blocks and labels are the same, and each block's packets are a schedule of it
+record AreAllSame (program : List Serial) (packets : List Packed) : Type 0 where
+  pub labels : labels_of packets ≡ labels_in program
+  pub schedules : AreSchedules program packets
+
+all_are_same : (program : List Serial) (packets : List Packed) (text : List ℕ) (same : Bool)
+    → IsChecked program packets text same → same ≡ true → AreAllSame program packets
+all_are_same program packets text same checked e =
+    let parts = parts_same checked.others checked.verdicts (sym checked.all ∙ e) in
+    record {
+      labels = same_labels program packets (subst (AreOthers program packets) parts.0 checked.judged.are_others);
+      schedules = are_schedules program packets checked.verdicts checked.judged.are_verdicts parts.1;
+    }
+
 pub checked_are_serial : (program : List Serial) (packets : List Packed) (text : List ℕ)
     → CheckedAreSerial program packets text
-checked_are_serial program packets text (OtherBlocks number first is e) = absurd cc
-checked_are_serial program packets text (SameBlocks labels verdicts are is e) =
-    let made = are_lined program packets (as_many program packets labels)
-    (are_schedules program packets verdicts are (sym e)) in
+checked_are_serial program packets text checked =
+    let all = all_are_same program packets text true checked refl in
+    let made = are_lined program packets (as_many program packets all.labels) all.schedules in
     record {
       lined = made.lined;
       alike = made.alike;
@@ -166,35 +189,45 @@ checked_are_serial program packets text (SameBlocks labels verdicts are is e) =
 
 numberings : (program : List Serial) (packets : List Packed) (text : List ℕ) (same : Bool)
     → IsChecked program packets text same → same ≡ true → HaveNumberings program packets
-numberings program packets text same (OtherBlocks number first is e) so = absurd cc
-numberings program packets text same (SameBlocks labels verdicts are is e) so = record {
-  labels = labels;
-  numbered = λ number block packed at_block at_packed.
-      (let schedule = are_schedules program packets verdicts are (sym e
-      ∙ so) number block packed at_block at_packed in (schedule.numbered, schedule.numbering));
-}
+numberings program packets text same checked so =
+    let all = all_are_same program packets text same checked so in
+    record {
+      labels = all.labels;
+      numbered = λ number block packed at_block at_packed.
+          (let schedule = all.schedules number block packed at_block at_packed in
+          (schedule.numbered, schedule.numbering));
+    }
 
 same_is : (verdict : Verdict) → verdict ≡ Same → is_same verdict ≡ true
 same_is verdict e = ap is_same e
 
+-- where the labels are the same no block differs
+none_other : (program : List Serial) (packets : List Packed) (others : List ℕ) (verdicts : List Verdict)
+    → labels_of packets ≡ labels_in program → AreOthers program packets others → list_all is_same verdicts ≡ true
+    → all_same others verdicts ≡ true
+none_other program packets [] verdicts labels are all = all
+none_other program packets (number ∷ others) verdicts labels are all =
+    let first : IsOther program packets number = are.differ 0 number (omega arith) in
+    absurd (first (ap (λ (ls : List (Option (List ℕ))). slice_get ls number) labels))
+
 is_the_same : (program : List Serial) (packets : List Packed) (text : List ℕ) (same : Bool)
     → All (λ block. IsTrue (is_block block.insns)) program → All IsPacketBlock packets
     → IsChecked program packets text same → HaveNumberings program packets → same ≡ true
-is_the_same program packets text same sound lawful (OtherBlocks number first is e) have =
-    absurd (first.differs (ap (λ (ls : List (Option (List ℕ))). slice_get ls number) have.labels))
-is_the_same program packets text same sound lawful (SameBlocks labels verdicts are is e) have =
-    e ∙ all_by is_same verdicts (λ number verdict at. (
+is_the_same program packets text same sound lawful checked have =
+    let verdicts = checked.verdicts in
+    let are = checked.judged.are_verdicts in
+    checked.all ∙ none_other program packets checked.others verdicts have.labels checked.judged.are_others
+    (all_by is_same verdicts (λ number verdict at. (
     let within = slice_get_within verdicts number verdict at in
     let count = are.count in
-    let many = as_many program packets labels in
     let block = there program number (omega (arith, within, count)) in
-    let packed = there packets number (omega (arith, within, count, many)) in
+    let packed = there packets number (omega (arith, within, count)) in
     let says = are.each number block.0 packed.0 verdict block.1 packed.1 at in
     same_is verdict
     ((is_exact block.0 packed.0 verdict
     (holds_at (λ (b : Serial). IsTrue (is_block b.insns)) program number block.0 sound block.1)
     (holds_at IsPacketBlock packets number packed.0 lawful packed.1) says).1
-    (have.numbered number block.0 packed.0 block.1 packed.1))))
+    (have.numbered number block.0 packed.0 block.1 packed.1)))))
 
 pub says_same : (program : List Serial) (packets : List Packed) (text : List ℕ) (same : Bool)
     → SaysSame program packets text same

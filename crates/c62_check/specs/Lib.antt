@@ -2,6 +2,7 @@ pub mod Matched
 pub mod Early
 pub mod Schedule
 pub mod Verdict
+pub mod Judged
 pub mod Lines
 pub mod Checked
 pub mod Least

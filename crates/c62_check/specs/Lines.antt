@@ -1,5 +1,5 @@
 -- The lines that tell what was found (docs/CHECK.md).
-use Rattle.std.specs.Prelude.{ℕ, ◌+◌, List, [], ◌∷◌, ◌++◌, Option, Some, None, decimal, codes}
+use Rattle.std.specs.Prelude.{ℕ, ◌+◌, List, [], ◌∷◌, ◌++◌, Option, Some, None, decimal, codes, slice_get}
 use Rattle.std.specs.Fmt.{signed_decimal}
 use Rattle.std.specs.List.{flat_map}
 use Rattle.c62_check.specs.declared.early.Early.{Early}
@@ -50,3 +50,11 @@ unfoldable pub other_words : Option (Option (List ℕ)) → Option (Option (List
 other_words (Some listed) (Some label) = label_words listed label
 other_words None label = codes "only in text"
 other_words listed None = codes "only in listing"
+
+-- the line of the block of this number, by the labels that blocks have in the listing, and those that they have in the text
+abbrev pub other_line : (listed labels : List (Option (List ℕ))) → ℕ → List ℕ
+other_line listed labels number = block_line number (other_words (slice_get listed number) (slice_get labels number))
+
+-- all that is told: of the blocks of these numbers how they differ, and of each block that both have what is found of it
+abbrev pub told_lines : (listed labels : List (Option (List ℕ))) → (others : List ℕ) → List Answer → List ℕ
+told_lines listed labels others verdicts = flat_map (λ number. other_line listed labels number) others ++ lines_from 0 verdicts

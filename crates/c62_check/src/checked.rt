@@ -1,19 +1,18 @@
 //! Holds packets against a program.
 
-ghost use Rattle.std.specs.Prelude.{◌≡◌, ◌≢◌, ◌↔◌, ◌++◌, ◌≤◌, length, IfOk, IsTrue, OnOk, MatchOption, slice_get, option_map};
+ghost use Rattle.std.specs.Prelude.{◌≡◌, ◌++◌, IfOk, OnOk, option_map};
+ghost use Rattle.std.specs.List.{flat_map};
 ghost use Rattle.std.specs.Option.{option_copied};
 ghost use Rattle.c62_read.specs.Block.{labels_in};
-ghost use Rattle.c62_read.specs.declared.limits.TheConstants.{MOST_BLOCKS};
 ghost use Rattle.c62_packet.specs.Packets.{labels_of};
-ghost use Rattle.c62_check.specs.Lines.{block_line, other_words};
-ghost use Rattle.c62_check.specs.Verdict.{IsVerdict};
-ghost use Rattle.c62_check.specs.Checked.{IsFirstOther, IsChecked};
+ghost use Rattle.c62_check.specs.Lines.{block_line, lines_from, other_line, other_words, told_lines};
+ghost use Rattle.c62_check.specs.Checked.{IsChecked};
 
+use crate::judged::{Judged, judge};
 use crate::lines::{push_labels, push_verdict, push_words};
-use crate::verdict::{Verdict, check_block};
-use c62_depend::Plan;
+use crate::verdict::Verdict;
 use c62_packet::{PacketBlock, Packets};
-use c62_read::{Block, Label, Program};
+use c62_read::{Block, Program};
 use std::alloc::{AllocError, Global};
 
 /// What was found where packets were held against a program.
@@ -25,79 +24,42 @@ pub struct Checked {
     pub same: bool,
 }
 
-impl Checked {
-    ghost use Rattle.std.specs.Prelude.{◌&&◌};
-    ghost use Rattle.c62_check.specs.Verdict.{is_same};
-    ghost use Rattle.c62_check.specs.Lines.{verdict_lines};
-
-    /// Adds what is told of the block of this number.
-    fn add(&mut self, number: usize, verdict: &Verdict) -> Result<(), AllocError>
-        ensures { OnOk result ((self.new.text.items ≡ self.old.text.items ++ verdict_lines number verdict.now) × (self.new.same ≡ (self.old.same && is_same verdict.now))) }
-    {
-        push_verdict(&mut self.text, number as u64, verdict)?;
-        self.same = self.same && verdict.is_same();
-        Ok(())
-    }
-}
-
 /// What is found where packets are held against a program: the lines of `docs/CHECK.md`, and whether every block is the
-/// same. Where a block has another label, or only one of the two has it, the first such block has the only line.
-/// Otherwise each block has a line, or one for each instruction that comes too early.
+/// same. Each block that has another label, or that only one of the two has, has a line. Behind these each block that both have
+/// has a line, or one for each instruction that comes too early.
 ///
 /// # Errors
 ///
 /// Where memory ran out.
-pub fn check(alloc: Global, program: Program, packets: &Packets) -> Result<Checked, AllocError>
-    ensures { IfOk result (λ checked. IsChecked program packets.now checked.text.items checked.same) }
+pub fn check(alloc: Global, program: &Program, packets: &Packets) -> Result<Checked, AllocError>
+    ensures { IfOk result (λ checked. IsChecked program.now packets.now checked.text.items checked.same) }
 {
-    match first_other(program.blocks(), packets.blocks()) {
-        Some(number) => check_other(alloc, number, program.blocks(), packets.blocks()),
-        None => check_blocks(alloc, program, packets),
-    }
+    let judged = judge(alloc, program, packets)?;
+    let blocks = program.blocks();
+    let listed = packets.blocks();
+    let mut text = Vec::new(alloc);
+    push_judged(&mut text, &judged, blocks, listed)?;
+    let same = judged.is_same();
+    Ok(Checked { text, same })
 }
 
-fn is_same_label(a: Option<&Label>, b: Option<&Label>) -> bool
-    ensures { IsTrue result ↔ (option_copied a.entry ≡ option_copied b.entry) }
+/// The lines of all that was found.
+fn push_judged(
+    out: &mut Vec<u8>,
+    judged: &Judged,
+    blocks: &[Block],
+    packets: &[PacketBlock],
+) -> Result<(), AllocError>
+    ensures { OnOk result (out.new.items ≡ out.old.items
+        ++ told_lines (labels_of packets.now) (labels_in blocks.now) judged.now.others.items judged.now.verdicts.items) }
 {
-    match (a, b) {
-        (Some(a), Some(b)) => a.as_bytes() == b.as_bytes(),
-        (None, None) => true,
-        _ => false,
-    }
+    push_others(out, &judged.others, blocks, packets)?;
+    push_verdicts(out, &judged.verdicts)
 }
 
-/// Whether there are both, with the same label, or neither.
-pub fn is_same_block(listed: Option<&PacketBlock>, block: Option<&Block>) -> bool
-    ensures { IsTrue result ↔ (option_map (λ one. one.label) (option_copied listed.entry) ≡ option_map (λ other. other.label) (option_copied block.entry)) }
-{
-    match (listed, block) {
-        (Some(listed), Some(block)) => is_same_label(listed.label(), block.label()),
-        (None, None) => true,
-        _ => false,
-    }
-}
-
-/// The number of the first block that differs in its label, or that only one of the two has.
-pub fn first_other(blocks: &[Block], packets: &[PacketBlock]) -> Option<usize>
-    requires blocks { length blocks.now ≤ MOST_BLOCKS }
-    requires packets { length packets.now ≤ MOST_BLOCKS }
-    ensures { MatchOption result (labels_of packets.now ≡ labels_in blocks.now) (IsFirstOther blocks.now packets.now) }
-{
-    for number in 0..blocks.len().max(packets.len()) {
-        if !is_same_block(packets.get(number), blocks.get(number)) {
-            return Some(number);
-        }
-    }
-    None
-}
-
-/// Appends the line of a block that differs in its label, or that only one of the two has.
-///
-/// # Errors
-///
-/// `AllocError` where memory ran out; the bytes are then unspecified.
+/// The line of a block that differs in its label, or that only one of the two has.
 #[tactic(auto, unfolding(crate::specs::Lines::other_words))]
-pub fn push_other(
+fn push_difference(
     out: &mut Vec<u8>,
     number: u64,
     listed: Option<&PacketBlock>,
@@ -113,57 +75,40 @@ pub fn push_other(
     }
 }
 
-/// What is found where this block is the first that differs in its label, or that only one of the two has.
-fn check_other(
-    alloc: Global,
+/// The line of the block of this number, which differs so.
+fn push_other(
+    out: &mut Vec<u8>,
     number: usize,
     blocks: &[Block],
     packets: &[PacketBlock],
-) -> Result<Checked, AllocError>
-    requires { IsFirstOther blocks.now packets.now number }
-    ensures { IfOk result (λ checked. IsChecked blocks.now packets.now checked.text.items checked.same) }
+) -> Result<(), AllocError>
+    ensures { OnOk result (out.new.items ≡ out.old.items ++ other_line (labels_of packets.now) (labels_in blocks.now) number) }
 {
-    let mut text = Vec::new(alloc);
-    push_other(
-        &mut text,
-        number as u64,
-        packets.get(number),
-        blocks.get(number),
-    )?;
-    Ok(Checked { text, same: false })
+    push_difference(out, number as u64, packets.get(number), blocks.get(number))
 }
 
-fn plan_of(alloc: Global, block: Block) -> Result<Plan, AllocError>
-    ensures { IfOk result (λ plan. plan ≡ block) }
+/// The lines of the blocks of these numbers, which differ so.
+fn push_others(
+    out: &mut Vec<u8>,
+    others: &[usize],
+    blocks: &[Block],
+    packets: &[PacketBlock],
+) -> Result<(), AllocError>
+    ensures { OnOk result (out.new.items ≡ out.old.items
+        ++ flat_map (λ number. other_line (labels_of packets.now) (labels_in blocks.now) number) others.now) }
 {
-    match Plan::new(alloc, block) {
-        Ok(plan) => Ok(plan),
-        Err((_, error)) => Err(error),
+    for number in others {
+        push_other(out, *number, blocks, packets)?;
     }
+    Ok(())
 }
 
-/// What is to be told of a block and its packets.
-fn verdict_of(alloc: Global, block: Block, packets: &PacketBlock) -> Result<Verdict, AllocError>
-    ensures { IfOk result (IsVerdict block packets.now) }
+/// The lines of what is found of the blocks, from the first one on.
+fn push_verdicts(out: &mut Vec<u8>, verdicts: &[Verdict]) -> Result<(), AllocError>
+    ensures { OnOk result (out.new.items ≡ out.old.items ++ lines_from 0 verdicts.now) }
 {
-    check_block(alloc, &plan_of(alloc, block)?, packets)
-}
-
-/// What is found where the blocks and their labels are the same.
-fn check_blocks(alloc: Global, program: Program, packets: &Packets) -> Result<Checked, AllocError>
-    requires { labels_of packets.now ≡ labels_in program }
-    ensures { IfOk result (λ checked. IsChecked program packets.now checked.text.items checked.same) }
-{
-    let packets = packets.blocks();
-    let mut checked = Checked {
-        text: Vec::new(alloc),
-        same: true,
-    };
-    let mut number = 0;
-    for block in program.into_blocks() {
-        let verdict = verdict_of(alloc, block, &packets[number])?;
-        checked.add(number, &verdict)?;
-        number += 1;
+    for number in 0..verdicts.len() {
+        push_verdict(out, number as u64, &verdicts[number])?;
     }
-    Ok(checked)
+    Ok(())
 }

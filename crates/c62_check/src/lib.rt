@@ -3,12 +3,14 @@
 
 mod checked;
 mod early;
+mod judged;
 pub mod laws;
 mod lines;
 mod matched;
 mod verdict;
 
-pub use checked::{Checked, check, first_other, is_same_block, push_other};
+pub use checked::{Checked, check};
 pub use early::Early;
+pub use judged::{Judged, judge};
 pub use lines::{push_verdict, push_words};
 pub use verdict::{Verdict, check_block};

@@ -1,5 +1,6 @@
 -- The loop of a block, with the straight instructions around it (docs/CHECK.md, "How it is decided").
-use Rattle.std.specs.Prelude.{◌≡◌, ℕ, ◌-◌, ◌+◌, ◌==◌, ◌&&◌, not, Bool, false, List, [], length, slice_get, Option, Some, None, is_some, if◌then◌else◌}
+use Rattle.std.specs.Prelude.{◌≡◌, ℕ, ◌-◌, ◌+◌, ◌==◌, ◌&&◌, ◌||◌, not, Bool, false, List, [], length, slice_get, Option, Some, None, is_some, if◌then◌else◌}
+use Rattle.std.specs.List.{list_any}
 use Rattle.c62_op.specs.declared.register.Reg.{Reg}
 use Rattle.c62_op.specs.declared.register.Cond.{Cond as Condition}
 use Rattle.c62_op.specs.declared.operands.Operands.{Operands}
@@ -8,6 +9,7 @@ use Rattle.c62_op.specs.Shape.{is_branch}
 use Rattle.c62_insn.specs.Insn.{op_of, operands_of, cond_of}
 use Rattle.c62_read.specs.declared.block.SerialInsn.{SerialInsn}
 use Rattle.c62_read.specs.Block.{Serial}
+use Rattle.c62_loop.specs.Counter.{touches}
 use Rattle.c62_loop.specs.Loop.{Region}
 use Rattle.c62_loop_match.specs.declared.parts.Region.{Region as RegionRead}
 use Rattle.c62_loop_match.specs.Parts.{region_of as region_read}
@@ -60,10 +62,19 @@ unlabelled_of (Some block) = unlabelled_in block.label block.insns
 abbrev pub above : List Serial → ℕ → List SerialInsn
 above blocks number = if number == 0 then [] else straight_of (slice_get blocks (number - 1))
 
--- what stands behind it up to the next label: the block below, where it has neither label nor branch. One that leads to another loop
--- belongs to that.
+abbrev pub touches_counter : Option Reg → Option Serial → Bool
+touches_counter None block = false
+touches_counter (Some counter) None = false
+touches_counter (Some counter) (Some block) = list_any (touches counter) block.insns
+
+-- the block below the loop of this number leads to another loop, and belongs to that, or it touches the counter, and stands by itself
+abbrev pub is_apart_below : List Serial → ℕ → Bool
+is_apart_below blocks number =
+    is_some (counter_of blocks (number + 2)) || touches_counter (counter_of blocks number) (slice_get blocks (number + 1))
+
+-- what stands behind it up to the next label: the block below, where it has neither label nor branch
 abbrev pub below : List Serial → ℕ → List SerialInsn
-below blocks number = if is_some (counter_of blocks (number + 2)) then [] else unlabelled_of (slice_get blocks (number + 1))
+below blocks number = if is_apart_below blocks number then [] else unlabelled_of (slice_get blocks (number + 1))
 
 -- The region is the loop of the block of this number.
 pub record IsRegionOf (blocks : List Serial) (number : ℕ) (region : Region) : Type 0 where

@@ -1,6 +1,6 @@
 //! Which rows are the prolog, the kernel and the epilog of a loop.
 
-use crate::region::{counter_of, is_behind, leads_on};
+use crate::region::{counter_of, has_below, leads_on};
 use crate::seats::entry_of;
 use c62_insn::{Operands, Reg};
 use c62_loop_match::touches;
@@ -82,12 +82,11 @@ impl Part {
         }
     }
 
-    /// Whether its branch takes effect at the end of a pass, where the first pass is known to end behind so many cycles or isn't.
+    /// Whether a branch takes effect at the end of the first pass: one of the prolog so many cycles behind its beginning, or its own.
     fn goes_round(self, pass: Option<u64>) -> bool {
-        match (self.branch, pass) {
-            (None, _) => false,
-            (Some(_), Some(cycles)) => self.cycles == cycles,
-            (Some(cycle), None) => cycle.saturating_add(6).checked_rem(self.cycles) == Some(0),
+        match self.branch {
+            Some(cycle) => self.cycles == pass.unwrap_or(cycle.saturating_add(6)),
+            None => false,
         }
     }
 }
@@ -137,7 +136,7 @@ fn kernel_rows(
     let mut least = None;
     for row in rows.rows.get(first as usize..)? {
         let next = part.with_row(counter, label, row);
-        if least.is_some() && (work < next.work || part.goes_round(pass) && row.insns.is_empty()) {
+        if least.is_some() && (work < next.work || part.goes_round(pass)) {
             break;
         }
         part = next;
@@ -175,11 +174,13 @@ fn label_above(
     Ok(0)
 }
 
-/// Whether an instruction of packets is one of these, on whatever unit.
+/// Whether an instruction of packets is one of these, on whatever unit. Of a branch it doesn't count where it goes: packets number labels,
+/// and a text numbers blocks.
 fn is_among(entries: &[SerialInsn], placed: &Placed) -> bool {
+    let insn = placed.insn.aimed(0);
     entries
         .iter()
-        .any(|entry| entry.insn.same_but_for_the_unit(&placed.insn))
+        .any(|entry| entry.insn.aimed(0).same_but_for_the_unit(&insn))
 }
 
 /// Whether it is one of a block's, or counts, where the block is a loop under this counter.
@@ -252,10 +253,10 @@ fn first_block(blocks: &[Block], number: usize) -> usize {
 }
 
 /// The number of the block behind a loop's region.
-fn block_behind(blocks: &[Block], number: usize) -> usize {
-    let next = number.saturating_add(1);
-    if is_behind(blocks, next) {
-        next.saturating_add(1)
+fn block_behind(blocks: &[Block], number: u8) -> usize {
+    let next = usize::from(number) + 1;
+    if has_below(blocks, number) {
+        next + 1
     } else {
         next
     }
@@ -294,6 +295,7 @@ pub(crate) fn extent_of(
     counter: Reg,
     work: usize,
 ) -> Result<Option<Extent>, AllocError> {
+    let behind = block_behind(blocks, number);
     let number = usize::from(number);
     let Some((kernel, label)) = kernel_of(alloc, blocks, number, read)? else {
         return Ok(None);
@@ -301,7 +303,7 @@ pub(crate) fn extent_of(
     let Some(begin) = begin_of(alloc, blocks, first_block(blocks, number), read)? else {
         return Ok(None);
     };
-    let Some(last) = begin_of(alloc, blocks, block_behind(blocks, number), read)? else {
+    let Some(last) = begin_of(alloc, blocks, behind, read)? else {
         return Ok(None);
     };
     let first = begin.min(kernel);

@@ -12,5 +12,5 @@ mod seats;
 mod verdict;
 
 pub use lines::{push_loop, push_register};
-pub use region::{counter_of, ends_with_branch};
+pub use region::{counter_of, ends_with_branch, has_below, is_apart_below};
 pub use verdict::{LoopVerdict, check_loop};

@@ -4,10 +4,12 @@ ghost use Rattle.std.specs.Prelude.{◌≡◌, IfOk, None, slice_get};
 ghost use Rattle.std.specs.Option.{option_copied};
 ghost use Rattle.c62_insn.specs.Insn.{operands_of, cond_of};
 ghost use Rattle.c62_loop_match.specs.Parts.{region_of as region_read};
-ghost use Rattle.c62_check_loop.specs.Region.{tested, tested_by, counter_in, counter_of, last_of, is_branch_entry, straight_in, straight_of, unlabelled_in, unlabelled_of, above, below, FindsRegion};
+ghost use Rattle.c62_check_loop.specs.Region.{tested, tested_by, counter_in, counter_of, last_of, is_branch_entry, straight_in, straight_of, unlabelled_in, unlabelled_of, above, below, is_apart_below, touches_counter, FindsRegion};
+ghost use Rattle.std.specs.List.{list_any};
+ghost use Rattle.c62_loop.specs.Counter.{touches};
 
 use c62_insn::{Insn, Operands, Reg};
-use c62_loop_match::Region;
+use c62_loop_match::{Region, touches};
 use c62_read::{Block, SerialInsn};
 use std::alloc::{AllocError, Global};
 
@@ -93,11 +95,37 @@ fn unlabelled_in(alloc: Global, block: &Block) -> Result<Vec<SerialInsn>, AllocE
     }
 }
 
-/// Those below a loop's block, up to the next label, where they don't lead to another loop.
+/// Whether one of these touches the counter.
+fn any_touches(counter: Reg, insns: &[SerialInsn]) -> bool
+    ensures { result ≡ list_any (touches counter) insns.now }
+{
+    insns.iter().any(|entry| touches(counter, entry))
+}
+
+/// Whether the block, where there is one, touches the counter, where there is one.
+fn touches_counter(counter: Option<Reg>, block: Option<&Block>) -> bool
+    ensures { result ≡ touches_counter counter (option_copied block.entry) }
+{
+    match (counter, block) {
+        (Some(counter), Some(block)) => any_touches(counter, block.insns()),
+        _ => false,
+    }
+}
+
+/// Whether the block below the loop of this number doesn't belong to it: it leads to another loop, or it touches the counter.
+pub fn is_apart_below(blocks: &[Block], number: u8) -> bool
+    ensures { result ≡ is_apart_below blocks.now number }
+{
+    let number = usize::from(number);
+    counter_of(blocks, number + 2).is_some()
+        || touches_counter(counter_of(blocks, number), blocks.get(number + 1))
+}
+
+/// Those below a loop's block, up to the next label, where they belong to it.
 fn below(alloc: Global, blocks: &[Block], number: u8) -> Result<Vec<SerialInsn>, AllocError>
     ensures { IfOk result (λ straight. straight.items ≡ below blocks.now number) }
 {
-    if counter_of(blocks, usize::from(number) + 2).is_some() {
+    if is_apart_below(blocks, number) {
         return Ok(Vec::new(alloc));
     }
     match blocks.get(usize::from(number) + 1) {
@@ -114,12 +142,12 @@ pub(crate) fn leads_on(blocks: &[Block], number: usize) -> bool {
     }
 }
 
-/// Whether the block of this number belongs to the loop above it.
-pub(crate) fn is_behind(blocks: &[Block], number: usize) -> bool {
-    match blocks.get(number) {
+/// Whether the block below that of this number belongs to it, where that is a loop.
+pub fn has_below(blocks: &[Block], number: u8) -> bool {
+    match blocks.get(usize::from(number) + 1) {
         Some(block) => block.label().is_none()
             && !ends_with_branch(block.insns())
-            && counter_of(blocks, number.saturating_add(1)).is_none(),
+            && !is_apart_below(blocks, number),
         None => false,
     }
 }

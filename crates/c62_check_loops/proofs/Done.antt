@@ -218,6 +218,7 @@ loops_do_the_same trips apart blocks packets answer plain is =
       promise = is.promise;
       promised = is.promised;
       told = is.loops;
+      counted = is.counted;
       starts = is.starts;
       begins = row_is (start_at is.starts 0) 0 rows.0;
       ends = row_is (start_at is.starts (length blocks)) (length packets.rows) rows.1;

@@ -72,12 +72,12 @@ all_next test old new verdicts verdict before is = is ∙ (ap (λ (b : Bool). b 
 pub loops_judged : (trips : List (Name × ℕ)) (apart : List Reg) (promise : Promise)
     (loops : List (Option LoopVerdict)) (starts : Starts) (blocks : List Serial) (rows : RowsRead) (count : ℕ)
     (told : Told) (judged : LoopsJudged) (all : Bool)
-    → AreTold trips promise loops starts blocks (text_of rows) (length blocks) told → IsPromiseOf apart promise
-    → count ≡ length rows.rows.items → all ≡ are_all_rows starts (length blocks) count
+    → AreTold trips promise loops starts blocks (text_of rows) (length blocks) told → length loops ≡ length blocks
+    → IsPromiseOf apart promise → count ≡ length rows.rows.items → all ≡ are_all_rows starts (length blocks) count
     → judged.verdicts.items ≡ told.verdicts.items → judged.wanting ≡ (told.same && not (told.fit && all))
     → judged.same ≡ (told.good && (told.fit && all)) → judged.plain ≡ told.plain
     → AreLoopsJudged trips apart blocks (text_of rows) judged
-loops_judged trips apart promise loops starts blocks rows count told judged all is promised counted stands they want
+loops_judged trips apart promise loops starts blocks rows count told judged all is as_many promised counted stands they want
     so none =
     let long : length (map row_read rows.rows.items) ≡ length rows.rows.items = length-map rows.rows.items row_read in
     let ends : all ≡ are_all_rows starts (length blocks) (length (text_of rows).rows) = stands
@@ -89,6 +89,7 @@ loops_judged trips apart promise loops starts blocks rows count told judged all 
       promise = promise;
       promised = promised;
       loops = loops;
+      counted = as_many;
       starts = starts;
       are = rw they is.are;
       rows = rw they (want ∙ (ap (λ (b : Bool). b && not (told.fit && all)) is.same
@@ -111,6 +112,7 @@ loops_told trips apart blocks packets judged answer is text = record {
   promise = is.promise;
   promised = is.promised;
   loops = is.loops;
+  counted = is.counted;
   starts = is.starts;
   verdicts = judged.verdicts.items;
   are = is.are;

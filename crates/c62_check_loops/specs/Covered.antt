@@ -2,7 +2,7 @@
 use Rattle.std.specs.Prelude.{ℕ, ◌-◌, ◌+◌, ◌==◌, ◌&&◌, ◌||◌, not, Bool, false, List, length, slice_get, Option, Some, None, is_some, is_none, if◌then◌else◌}
 use Rattle.c62_read.specs.Block.{Serial}
 use Rattle.c62_check_loop.specs.declared.verdict.LoopVerdict.{LoopVerdict}
-use Rattle.c62_check_loop.specs.Region.{counter_of, is_branch_entry, last_of}
+use Rattle.c62_check_loop.specs.Region.{counter_of, is_apart_below, is_branch_entry, last_of}
 
 -- the block of this number is a loop under a counter
 abbrev pub is_loop : List Serial → ℕ → Bool
@@ -21,10 +21,6 @@ abbrev pub is_empty : Option Serial → Bool
 is_empty None = false
 is_empty (Some block) = length block.insns == 0
 
--- without a label or branch, and no block that leads to a loop
-abbrev pub is_loose : List Serial → ℕ → Bool
-is_loose blocks number = is_bare (slice_get blocks number) && not (is_loop blocks (number + 1))
-
 -- ---- what is told of blocks as loops
 
 abbrev pub loop_in : Option (Option LoopVerdict) → Option LoopVerdict
@@ -39,12 +35,14 @@ is_told told number = is_some (loop_in (slice_get told number))
 abbrev pub leads_to_loop : List Serial → List (Option LoopVerdict) → ℕ → Bool
 leads_to_loop blocks told number = is_told told (number + 1) && is_straight (slice_get blocks number)
 
-abbrev pub stands_behind : List Serial → List (Option LoopVerdict) → ℕ → ℕ → Bool
-stands_behind blocks told before number = is_told told before && is_loose blocks number
+-- the block below that of this number belongs to it, where that is a loop: it has neither label nor branch, leads to no other loop, and
+-- doesn't touch the counter
+abbrev pub has_below : List Serial → ℕ → Bool
+has_below blocks number = is_bare (slice_get blocks (number + 1)) && not (is_apart_below blocks number)
 
 -- it stands behind one, and belongs to it
 abbrev pub follows_loop : List Serial → List (Option LoopVerdict) → ℕ → Bool
-follows_loop blocks told number = if number == 0 then false else stands_behind blocks told (number - 1) number
+follows_loop blocks told number = if number == 0 then false else is_told told (number - 1) && has_below blocks (number - 1)
 
 -- What stands between two loops leads to the second, and belongs to that alone, if it is told.
 abbrev pub belongs_to_loop : List Serial → List (Option LoopVerdict) → ℕ → Bool

@@ -6,15 +6,11 @@ use Rattle.c62_check_loop.specs.declared.verdict.LoopVerdict.TheVariants.{Same, 
 use Rattle.c62_check_rest.specs.Starts.{Starts, start_at, is_row}
 use Rattle.c62_check_loops.specs.declared.verdict.BlockVerdict.{BlockVerdict}
 use Rattle.c62_check_loops.specs.declared.verdict.BlockVerdict.TheVariants.{Loop, Within, Rest}
-use Rattle.c62_check_loops.specs.Covered.{is_loop, is_straight, is_bare, leads_to_loop, follows_loop}
+use Rattle.c62_check_loops.specs.Covered.{is_straight, has_below, leads_to_loop, follows_loop}
 
 -- the block above leads to the loop
 abbrev pub has_above : List Serial → ℕ → Bool
 has_above blocks number = if number == 0 then false else is_straight (slice_get blocks (number - 1))
-
--- the block below belongs to it: it has neither label nor branch, and leads to no other loop
-abbrev pub has_below : List Serial → ℕ → Bool
-has_below blocks number = is_bare (slice_get blocks (number + 1)) && not (is_loop blocks (number + 2))
 
 -- the first block of a loop's region, and the block behind it
 abbrev pub first_block : List Serial → ℕ → ℕ

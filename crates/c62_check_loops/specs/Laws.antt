@@ -71,6 +71,7 @@ pub record AreDone (trips : List (Name × ℕ)) (apart : List Reg) (blocks : Lis
   pub promise : Promise
   pub promised : IsPromiseOf apart promise
   pub told : List (Option LoopVerdict)
+  pub counted : length told ≡ length blocks
   pub starts : Starts
   pub begins : start_at starts 0 ≡ Some 0
   pub ends : start_at starts (length blocks) ≡ Some (length packets.rows)

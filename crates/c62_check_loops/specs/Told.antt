@@ -34,6 +34,7 @@ pub record AreLoopsJudged (trips : List (Name × ℕ)) (apart : List Reg) (block
   pub promise : Promise
   pub promised : IsPromiseOf apart promise
   pub loops : List (Option LoopVerdict)
+  pub counted : length loops ≡ length blocks
   pub starts : Starts
   pub are : AreVerdicts promise loops starts blocks packets (length blocks) judged.verdicts.items
   pub rows : judged.wanting ≡ (list_all is_same judged.verdicts.items && not (stand_in_turn loops starts blocks judged.verdicts.items packets))
@@ -47,6 +48,7 @@ pub record AreLoopsTold (trips : List (Name × ℕ)) (apart : List Reg) (blocks 
   pub promise : Promise
   pub promised : IsPromiseOf apart promise
   pub loops : List (Option LoopVerdict)
+  pub counted : length loops ≡ length blocks
   pub starts : Starts
   pub verdicts : List BlockVerdict
   pub are : AreVerdicts promise loops starts blocks packets (length blocks) verdicts

@@ -2,10 +2,10 @@
 
 ghost use Rattle.std.specs.Prelude.{◌≡◌, ◌<◌, slice_get};
 ghost use Rattle.std.specs.Option.{option_copied};
-ghost use Rattle.c62_check_loops.specs.Covered.{belongs_to_loop, follows_loop, is_bare, is_empty, is_loop, is_loose, is_straight, is_told, is_told_with_loop, leads_to_loop, stands_behind};
+ghost use Rattle.c62_check_loops.specs.Covered.{belongs_to_loop, follows_loop, has_below, is_bare, is_empty, is_loop, is_straight, is_told, is_told_with_loop, leads_to_loop};
 
 use crate::verdict::{Loops, loop_at};
-use c62_check_loop::{counter_of, ends_with_branch};
+use c62_check_loop::{counter_of, ends_with_branch, is_apart_below};
 use c62_read::Block;
 
 /// Whether the block of this number is a loop under a counter.
@@ -35,13 +35,6 @@ fn is_bare(block: Option<&Block>) -> bool
     }
 }
 
-/// The same of the block of this number.
-pub(crate) fn is_bare_at(blocks: &[Block], number: u8) -> bool
-    ensures { result ≡ is_bare (slice_get blocks.now number) }
-{
-    is_bare(blocks.get(usize::from(number)))
-}
-
 /// Whether there is a block, without instructions.
 fn is_empty(block: Option<&Block>) -> bool
     ensures { result ≡ is_empty (option_copied block.entry) }
@@ -52,12 +45,19 @@ fn is_empty(block: Option<&Block>) -> bool
     }
 }
 
-/// Whether the block of this number has neither label nor branch, and leads to no loop.
-fn is_loose(blocks: &[Block], number: u8) -> bool
-    requires { number < 255 }
-    ensures { result ≡ is_loose blocks.now number }
+/// The same of the block of this number.
+fn is_bare_at(blocks: &[Block], number: u8) -> bool
+    ensures { result ≡ is_bare (slice_get blocks.now number) }
 {
-    is_bare_at(blocks, number) && !is_loop(blocks, number + 1)
+    is_bare(blocks.get(usize::from(number)))
+}
+
+/// Whether the block below that of this number belongs to it, where that is a loop.
+pub(crate) fn has_below(blocks: &[Block], number: u8) -> bool
+    requires { number < 255 }
+    ensures { result ≡ has_below blocks.now number }
+{
+    is_bare_at(blocks, number + 1) && !is_apart_below(blocks, number)
 }
 
 /// Whether the block of this number is told as a loop.
@@ -75,14 +75,6 @@ pub(crate) fn leads_to_loop(blocks: &[Block], loops: &Loops, number: u8) -> bool
     is_told(loops, number + 1) && is_straight(blocks.get(usize::from(number)))
 }
 
-/// Whether the block of one number is told as a loop, and that of another has neither label nor branch, and leads to no loop.
-fn stands_behind(blocks: &[Block], loops: &Loops, before: u8, number: u8) -> bool
-    requires { number < 255 }
-    ensures { result ≡ stands_behind blocks.now loops.now.verdicts.items before number }
-{
-    is_told(loops, before) && is_loose(blocks, number)
-}
-
 /// Whether the block of this number stands behind a loop that is told, and belongs to it.
 pub(crate) fn follows_loop(blocks: &[Block], loops: &Loops, number: u8) -> bool
     requires { number < 255 }
@@ -91,7 +83,7 @@ pub(crate) fn follows_loop(blocks: &[Block], loops: &Loops, number: u8) -> bool
     if number == 0 {
         false
     } else {
-        stands_behind(blocks, loops, number - 1, number)
+        is_told(loops, number - 1) && has_below(blocks, number - 1)
     }
 }
 

@@ -3,9 +3,9 @@
 ghost use Rattle.std.specs.Prelude.{◌≡◌, ◌<◌, slice_get};
 ghost use Rattle.c62_check_rest.specs.Starts.{is_row};
 ghost use Rattle.c62_check_loops.specs.Covered.{is_straight};
-ghost use Rattle.c62_check_loops.specs.Fit.{has_above, has_below, first_block, block_behind, is_alone, stands_there, is_passed, is_within, is_fit, are_all_rows};
+ghost use Rattle.c62_check_loops.specs.Fit.{has_above, first_block, block_behind, is_alone, stands_there, is_passed, is_within, is_fit, are_all_rows};
 
-use crate::covered::{follows_loop, is_bare_at, is_loop, is_straight, leads_to_loop};
+use crate::covered::{follows_loop, has_below, is_straight, leads_to_loop};
 use crate::verdict::{BlockVerdict, Loops};
 use c62_check_loop::LoopVerdict;
 use c62_check_rest::{is_row, start_at};
@@ -26,14 +26,6 @@ fn has_above(blocks: &[Block], number: u8) -> bool
     } else {
         is_straight_at(blocks, number - 1)
     }
-}
-
-/// Whether the block below that of this number belongs to it, where that is a loop.
-fn has_below(blocks: &[Block], number: u8) -> bool
-    requires { number < 253 }
-    ensures { result ≡ has_below blocks.now number }
-{
-    is_bare_at(blocks, number + 1) && !is_loop(blocks, number + 2)
 }
 
 /// The number of the first block of a loop's region: the block above, where that leads to the loop.

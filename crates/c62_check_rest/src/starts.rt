@@ -3,7 +3,7 @@
 ghost use Rattle.std.specs.Prelude.{◌≡◌};
 ghost use Rattle.c62_check_rest.specs.Starts.{is_row, start_at};
 
-use c62_check_loop::{LoopVerdict, counter_of, ends_with_branch};
+use c62_check_loop::{LoopVerdict, ends_with_branch, has_below};
 use c62_read::Block;
 use c62_rows::{Row, RowsText};
 use std::alloc::{AllocError, Global};
@@ -28,11 +28,6 @@ pub fn is_row(start: Option<usize>, row: usize) -> bool
     }
 }
 
-/// Whether the block of this number is there, and is a loop under a counter.
-fn is_loop(blocks: &[Block], number: usize) -> bool {
-    counter_of(blocks, number).is_some()
-}
-
 /// Whether the block above that of this number leads to it.
 fn has_block_above(blocks: &[Block], number: usize) -> bool {
     match number.checked_sub(1).and_then(|above| blocks.get(above)) {
@@ -43,15 +38,11 @@ fn has_block_above(blocks: &[Block], number: usize) -> bool {
 
 /// Whether the block of this number belongs to the loop above it, of which this is told.
 fn is_behind_loop(blocks: &[Block], loops: &[Option<LoopVerdict>], number: usize) -> bool {
-    let follows = match number.checked_sub(1) {
-        Some(above) => loop_at(loops, above).is_some(),
-        None => false,
-    };
-    match blocks.get(number) {
-        Some(block) => follows
-            && block.label().is_none()
-            && !ends_with_branch(block.insns())
-            && !is_loop(blocks, number.saturating_add(1)),
+    match number
+        .checked_sub(1)
+        .and_then(|above| u8::try_from(above).ok())
+    {
+        Some(above) => loop_at(loops, usize::from(above)).is_some() && has_below(blocks, above),
         None => false,
     }
 }

@@ -50,6 +50,28 @@ macro_rules! ending_run {
     };
 }
 
+/// The same of a command that reads serial text.
+macro_rules! ending_serial {
+    ($example:literal) => {
+        ending!(
+            "Options of each command that reads serial text:\n",
+            "      --labels <STYLE>   With gnu, takes labels that begin with a dot too\n\n",
+            ; $example
+        )
+    };
+}
+
+/// The same of a command that runs serial text.
+macro_rules! ending_serial_run {
+    ($example:literal) => {
+        ending_run!(
+            "Options of each command that reads serial text:\n",
+            "      --labels <STYLE>   With gnu, takes labels that begin with a dot too\n\n",
+            ; $example
+        )
+    };
+}
+
 /// The same of a command whose run can be shown as it goes.
 macro_rules! ending_traced {
     ($example:literal) => {
@@ -394,7 +416,7 @@ fn pack_command<'a>(alloc: Global) -> Result<Command<'a>, AllocError>
         .override_usage(
             "c62 pack [--turns] [--eject <N>] [--shortest] [--search <N>] [--json] [-o <FILE>] [FILE]\n       c62 pack --pipeline [--trips <L=N>]... [--apart <REG,REG,..>] [--verbose] [--json] [-o <FILE>] [FILE]",
         )
-        .after_help(ending!(; "c62 pack --pipeline --trips LOOP=8 kernel.s"));
+        .after_help(ending_serial!("c62 pack --pipeline --trips LOOP=8 kernel.s"));
     with_told_pipeline(alloc, with_packing(alloc, command)?)?.arg(json_flag(alloc))
 }
 
@@ -407,7 +429,7 @@ fn show_command<'a>(alloc: Global) -> Result<Command<'a>, AllocError>
         .override_usage(
             "c62 show [--why] [--registers] [--summary] [--turns] [--eject <N>] [--shortest] [--search <N>] [--json|--html] [-o <FILE>] [FILE]\n       c62 show --pipeline [--trips <L=N>]... [--apart <REG,REG,..>] [--json|--html] [-o <FILE>] [FILE]\n       c62 show --listing|--packets [--why] [--registers] [--summary] [--json|--html] [-o <FILE>] [FILE]",
         )
-        .after_help(ending!(; "c62 show --why kernel.s"));
+        .after_help(ending_serial!("c62 show --why kernel.s"));
     let command = with_pipeline(alloc, with_packing(alloc, command)?)?;
     with_details(alloc, with_forms(alloc, command)?)
 }
@@ -421,7 +443,7 @@ fn run_command<'a>(alloc: Global) -> Result<Command<'a>, AllocError>
         .override_usage(
             "c62 run [--turns] [--eject <N>] [--shortest] [--search <N>] [--blocks <N>] [--profile] [--strict] [--json] [-o <FILE>] [FILE] [SETTING]...\n       c62 run --pipeline [--trips <L=N>]... [--apart <REG,REG,..>] [--verbose] [--cycles <N>] [--profile] [--strict] [--json] [-o <FILE>] [FILE] [SETTING]...",
         )
-        .after_help(ending_run!(; "c62 run kernel.s A4=8 @8=99"));
+        .after_help(ending_serial_run!("c62 run kernel.s A4=8 @8=99"));
     with_start(
         alloc,
         with_pipelined_run(alloc, with_packing(alloc, command)?)?,
@@ -437,7 +459,7 @@ fn serial_command<'a>(alloc: Global) -> Result<Command<'a>, AllocError>
         .override_usage(
             "c62 serial [--apart <REG,REG,..>] [--blocks <N>] [--profile] [--strict] [--json] [-o <FILE>] [FILE] [SETTING]...",
         )
-        .after_help(ending_run!(; "c62 serial kernel.s A4=8 @8=99"));
+        .after_help(ending_serial_run!("c62 serial kernel.s A4=8 @8=99"));
     with_start(alloc, command.arg(apart_option(alloc))?)
 }
 
@@ -493,7 +515,7 @@ fn check_command<'a>(alloc: Global) -> Result<Command<'a>, AllocError>
         .override_usage(
             "c62 check [--packets] [--json] [-o <FILE>] <TEXT> <LISTING>\n       c62 check [--packets] [--json] [-o <FILE>] [FILE]  (both in one, with a line `---` between them)\n       c62 check --loops [--trips <L=N>]... [--apart <REG,REG,..>] [--json] [-o <FILE>] <TEXT> <PACKETS>",
         )
-        .after_help(ending!(; "c62 check kernel.s hand.lst"))
+        .after_help(ending_serial!("c62 check kernel.s hand.lst"))
         .arg(written_flag(alloc))?;
     with_loops(alloc, command)?.arg(json_flag(alloc))
 }

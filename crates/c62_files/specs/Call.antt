@@ -12,15 +12,15 @@ use Rattle.c62_files.specs.declared.call.CallError.TheVariants.{NoName, TooManyI
 pub data From : Type 0 where
   Standard : From
   File : Text → From
-  -- standard input, which is called by this name
-  Named : Text → From
+  -- standard input, whose text and listing are called by these names
+  Named : (text listing : Text) → From
   -- a text, and a listing that is held against it
   Parts : (text listing : Text) → From
 
 abbrev pub text_source : Source → From
 text_source given.Standard = Standard
 text_source (given.File name) = File name.now
-text_source (given.Named name) = Named name.now
+text_source (given.Named text listing) = Named text.now listing.now
 text_source (given.Parts text listing) = Parts text.now listing.now
 
 abbrev pub is_standard : Text → Bool

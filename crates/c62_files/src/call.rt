@@ -19,8 +19,8 @@ pub enum Source<'a> {
     Standard,
     /// The file of this name.
     File(&'a str),
-    /// Standard input, which is called by this name: the bytes of its file were read before. No words name it.
-    Named(&'a str),
+    /// Standard input, whose text and listing are called by these names: the bytes of their files were read before. No words name it.
+    Named(&'a str, &'a str),
     /// A text and a listing that is held against it: the files of these names, or standard input where one is `-`.
     Parts(&'a str, &'a str),
 }

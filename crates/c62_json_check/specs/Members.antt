@@ -1,10 +1,10 @@
 -- The members of a document of `check` (docs/JSON.md, "check").
-use Rattle.std.specs.Prelude.{ℕ, ◌+◌, List, [], ◌∷◌, ◌++◌, Bool, false, Option, Some, None, codes}
-use Rattle.std.specs.List.{list_all}
+use Rattle.std.specs.Prelude.{ℕ, ◌+◌, List, [], ◌∷◌, ◌++◌, false, Option, Some, None, codes, slice_get}
+use Rattle.std.specs.List.{flat_map}
 use Rattle.json.specs.Token.{Token, boolean, key, null}
 use Rattle.c62_json.specs.Document.{array, count, object, text}
 use Rattle.c62_check.specs.declared.verdict.Verdict.{Verdict as Answer}
-use Rattle.c62_check.specs.Verdict.{is_same}
+use Rattle.c62_check.specs.Judged.{all_same}
 use Rattle.c62_json_check.specs.Blocks.{verdict_object}
 
 -- the label of a block: null where it has none, and false where the block isn't there
@@ -23,15 +23,26 @@ abbrev pub blocks_from : ℕ → List Answer → List Token
 blocks_from block [] = []
 blocks_from block (verdict ∷ verdicts) = verdict_object block verdict ++ blocks_from (block + 1) verdicts
 
--- whether all is the same, the first block that differs in its label, and what is told of each block
-abbrev pub members : (same : Bool) → (other blocks : List Token) → List Token
-members same other blocks =
-    key (codes "same") ∷ boolean same ∷ key (codes "other") ∷ other ++ key (codes "blocks") ∷ array blocks
+-- the object of the block of this number, by the labels that blocks have in the listing, and those that they have in the text
+abbrev pub other_object : (listed labels : List (Option (List ℕ))) → ℕ → List Token
+other_object listed labels number = object (label_members number (slice_get listed number) (slice_get labels number))
 
--- where a block differs in its label, or only one of the two has it
-unfoldable pub other_members : (block : ℕ) → (listed label : Option (Option (List ℕ))) → List Token
-other_members block listed label = members false (object (label_members block listed label)) []
+-- that of the first of these blocks, if any
+unfoldable pub first_object : (listed labels : List (Option (List ℕ))) → (others : List ℕ) → List Token
+first_object listed labels [] = null ∷ []
+first_object listed labels (number ∷ others) = other_object listed labels number
 
--- where the blocks and their labels are the same
-unfoldable pub same_members : List Answer → List Token
-same_members verdicts = members (list_all is_same verdicts) (null ∷ []) (blocks_from 0 verdicts)
+-- those of all of these
+abbrev pub objects_of : (listed labels : List (Option (List ℕ))) → (others : List ℕ) → List Token
+objects_of listed labels others = flat_map (λ number. other_object listed labels number) others
+
+-- whether all is the same, the first block that differs in its label, and what is told of each block that both have
+unfoldable pub front_members : (listed labels : List (Option (List ℕ))) → (others : List ℕ) → List Answer → List Token
+front_members listed labels others verdicts =
+    key (codes "same") ∷ boolean (all_same others verdicts) ∷ key (codes "other") ∷ first_object listed labels others
+    ++ key (codes "blocks") ∷ array (blocks_from 0 verdicts)
+
+-- behind these stand all blocks that differ so
+unfoldable pub members : (listed labels : List (Option (List ℕ))) → (others : List ℕ) → List Answer → List Token
+members listed labels others verdicts =
+    front_members listed labels others verdicts ++ key (codes "others") ∷ array (objects_of listed labels others)

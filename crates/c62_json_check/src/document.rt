@@ -1,22 +1,17 @@
 //! The document that tells what is found where packets are held against a program.
 
-ghost use Rattle.std.specs.Prelude.{◌≡◌, [], ◌∷◌, ◌++◌, codes, option_map, IfOk};
-ghost use Rattle.std.specs.List.{list_all};
-ghost use Rattle.std.specs.Option.{option_copied};
+ghost use Rattle.std.specs.Prelude.{◌≡◌, [], ◌∷◌, ◌++◌, codes, IfOk};
 ghost use Rattle.json.specs.Token.{boolean, key};
 ghost use Rattle.c62_json.specs.Document.{Adds, array, document};
 ghost use Rattle.c62_read.specs.Block.{labels_in};
 ghost use Rattle.c62_packet.specs.Packets.{labels_of};
-ghost use Rattle.c62_check.specs.Verdict.{IsVerdict, is_same};
-ghost use Rattle.c62_check.specs.Checked.{AreVerdicts, IsFirstOther};
-ghost use Rattle.c62_json_check.specs.Members.{blocks_from, other_members, same_members};
+ghost use Rattle.c62_json_check.specs.Members.{blocks_from, first_object, front_members, members, objects_of};
 ghost use Rattle.c62_json_check.specs.Checked.{IsCheckDocument};
 
 use crate::block::push_verdict;
-use crate::other::push_labels;
-use c62_check::{Verdict, check_block, first_other};
-use c62_depend::Plan;
-use c62_json::{begin, end, push_flag, push_missing};
+use crate::other::{push_first, push_objects};
+use c62_check::{Judged, Verdict, judge};
+use c62_json::{begin, end, push_flag};
 use c62_packet::{PacketBlock, Packets};
 use c62_read::{Block, Program};
 use json::Writer;
@@ -49,7 +44,7 @@ fn push_all(alloc: Global, out: &mut Writer, verdicts: &[Verdict]) -> Result<(),
     Ok(())
 }
 
-/// What is told of each block, as a member.
+/// What is told of each block that both have, as a member.
 fn push_blocks(alloc: Global, out: &mut Writer, verdicts: &[Verdict]) -> Result<(), AllocError>
     ensures { Adds result out.old out.new (key (codes "blocks") ∷ array (blocks_from 0 verdicts.now)) }
 {
@@ -59,148 +54,99 @@ fn push_blocks(alloc: Global, out: &mut Writer, verdicts: &[Verdict]) -> Result<
     out.end_array()
 }
 
-fn are_same(verdicts: &[Verdict]) -> bool
-    ensures { result ≡ list_all is_same verdicts.now }
-{
-    verdicts.iter().all(|verdict| verdict.is_same())
-}
-
-/// The members where the blocks and their labels are the same.
-#[tactic(auto, unfolding(crate::specs::Members::same_members))]
-fn push_same_members(
+/// The first block that differs, as a member.
+fn push_other(
     alloc: Global,
     out: &mut Writer,
-    verdicts: &[Verdict],
-) -> Result<(), AllocError>
-    ensures { Adds result out.old out.new (same_members verdicts.now) }
-{
-    push_same(out, are_same(verdicts))?;
-    out.key("other")?;
-    push_missing(out)?;
-    push_blocks(alloc, out, verdicts)
-}
-
-/// The members where a block differs in its label, or only one of the two has it.
-#[tactic(auto, unfolding(crate::specs::Members::other_members))]
-fn push_other_members(
-    alloc: Global,
-    out: &mut Writer,
-    number: usize,
-    listed: Option<&PacketBlock>,
-    block: Option<&Block>,
-) -> Result<(), AllocError>
-    ensures { Adds result out.old out.new (other_members number
-        (option_map (λ one. one.label) (option_copied listed.entry)) (option_map (λ other. other.label) (option_copied block.entry))) }
-{
-    push_same(out, false)?;
-    out.key("other")?;
-    push_labels(alloc, out, number, listed, block)?;
-    push_blocks(alloc, out, &[])
-}
-
-/// The text of the document where a block differs in its label, or only one of the two has it.
-fn other_text(
-    alloc: Global,
-    number: usize,
-    listed: Option<&PacketBlock>,
-    block: Option<&Block>,
-) -> Result<Vec<u8>, AllocError>
-    ensures { IfOk result (λ text. text.items ≡ document (codes "check") (other_members number
-        (option_map (λ one. one.label) (option_copied listed.entry)) (option_map (λ other. other.label) (option_copied block.entry)))) }
-{
-    let mut out = begin(alloc, "check")?;
-    push_other_members(alloc, &mut out, number, listed, block)?;
-    end(out)
-}
-
-/// The document where this block is the first that differs in its label, or that only one of the two has.
-fn other_document(
-    alloc: Global,
-    number: usize,
+    others: &[usize],
     blocks: &[Block],
     packets: &[PacketBlock],
-) -> Result<CheckedDocument, AllocError>
-    requires { IsFirstOther blocks.now packets.now number }
-    ensures { IfOk result (λ checked. IsCheckDocument blocks.now packets.now checked.text.items checked.same) }
+) -> Result<(), AllocError>
+    ensures { Adds result out.old out.new (key (codes "other") ∷ first_object (labels_of packets.now) (labels_in blocks.now) others.now) }
 {
-    let text = other_text(alloc, number, packets.get(number), blocks.get(number))?;
-    Ok(CheckedDocument { text, same: false })
+    out.key("other")?;
+    push_first(alloc, out, others, blocks, packets)
 }
 
-fn plan_of(alloc: Global, block: Block) -> Result<Plan, AllocError>
-    ensures { IfOk result (λ plan. plan ≡ block) }
-{
-    match Plan::new(alloc, block) {
-        Ok(plan) => Ok(plan),
-        Err((_, error)) => Err(error),
-    }
-}
-
-/// What is to be told of a block and its packets.
-fn verdict_of(alloc: Global, block: Block, packets: &PacketBlock) -> Result<Verdict, AllocError>
-    ensures { IfOk result (IsVerdict block packets.now) }
-{
-    check_block(alloc, &plan_of(alloc, block)?, packets)
-}
-
-/// What is to be told of each block, where the blocks and their labels are the same.
-fn verdicts_of(
+/// All blocks that differ, as a member.
+fn push_others(
     alloc: Global,
-    program: Program,
-    packets: &Packets,
-) -> Result<Vec<Verdict>, AllocError>
-    requires { labels_of packets.now ≡ labels_in program }
-    ensures { IfOk result (λ verdicts. AreVerdicts program packets.now verdicts.items) }
+    out: &mut Writer,
+    others: &[usize],
+    blocks: &[Block],
+    packets: &[PacketBlock],
+) -> Result<(), AllocError>
+    ensures { Adds result out.old out.new (key (codes "others") ∷ array (objects_of (labels_of packets.now) (labels_in blocks.now) others.now)) }
 {
-    let packets = packets.blocks();
-    let mut verdicts = Vec::new(alloc);
-    let mut number = 0;
-    for block in program.into_blocks() {
-        verdicts.push(verdict_of(alloc, block, &packets[number])?)?;
-        number += 1;
-    }
-    Ok(verdicts)
+    out.key("others")?;
+    out.begin_array()?;
+    push_objects(alloc, out, others, blocks, packets)?;
+    out.end_array()
 }
 
-/// The text of the document of these verdicts.
-fn verdicts_text(alloc: Global, verdicts: &[Verdict]) -> Result<Vec<u8>, AllocError>
-    ensures { IfOk result (λ text. text.items ≡ document (codes "check") (same_members verdicts.now)) }
+/// The members but the last.
+#[tactic(auto, unfolding(crate::specs::Members::front_members))]
+fn push_front(
+    alloc: Global,
+    out: &mut Writer,
+    judged: &Judged,
+    blocks: &[Block],
+    packets: &[PacketBlock],
+) -> Result<(), AllocError>
+    ensures { Adds result out.old out.new (front_members (labels_of packets.now) (labels_in blocks.now) judged.now.others.items judged.now.verdicts.items) }
+{
+    push_same(out, judged.is_same())?;
+    push_other(alloc, out, &judged.others, blocks, packets)?;
+    push_blocks(alloc, out, &judged.verdicts)
+}
+
+/// The members.
+#[tactic(auto, unfolding(crate::specs::Members::members))]
+fn push_members(
+    alloc: Global,
+    out: &mut Writer,
+    judged: &Judged,
+    blocks: &[Block],
+    packets: &[PacketBlock],
+) -> Result<(), AllocError>
+    ensures { Adds result out.old out.new (members (labels_of packets.now) (labels_in blocks.now) judged.now.others.items judged.now.verdicts.items) }
+{
+    push_front(alloc, out, judged, blocks, packets)?;
+    push_others(alloc, out, &judged.others, blocks, packets)
+}
+
+/// The text of the document of what was found of these.
+fn judged_text(
+    alloc: Global,
+    judged: &Judged,
+    blocks: &[Block],
+    packets: &[PacketBlock],
+) -> Result<Vec<u8>, AllocError>
+    ensures { IfOk result (λ text. text.items ≡ document (codes "check")
+        (members (labels_of packets.now) (labels_in blocks.now) judged.now.others.items judged.now.verdicts.items)) }
 {
     let mut out = begin(alloc, "check")?;
-    push_same_members(alloc, &mut out, verdicts)?;
+    push_members(alloc, &mut out, judged, blocks, packets)?;
     end(out)
 }
 
-/// The document where the blocks and their labels are the same.
-fn blocks_document(
-    alloc: Global,
-    program: Program,
-    packets: &Packets,
-) -> Result<CheckedDocument, AllocError>
-    requires { labels_of packets.now ≡ labels_in program }
-    ensures { IfOk result (λ checked. IsCheckDocument program packets.now checked.text.items checked.same) }
-{
-    let verdicts = verdicts_of(alloc, program, packets)?;
-    let text = verdicts_text(alloc, &verdicts)?;
-    let same = are_same(&verdicts);
-    Ok(CheckedDocument { text, same })
-}
-
-/// The document of a check of packets against a program: what is found of each block, or the first block that differs in its
-/// label, or that only one of the two has; and whether every block is the same.
+/// The document of a check of packets against a program: which blocks differ in their labels, or stand in one of the two alone, and
+/// what is found of each block that both have; and whether every block is the same.
 ///
 /// # Errors
 ///
 /// `AllocError` where memory ran out.
 pub fn check_document(
     alloc: Global,
-    program: Program,
+    program: &Program,
     packets: &Packets,
 ) -> Result<CheckedDocument, AllocError>
-    ensures { IfOk result (λ checked. IsCheckDocument program packets.now checked.text.items checked.same) }
+    ensures { IfOk result (λ checked. IsCheckDocument program.now packets.now checked.text.items checked.same) }
 {
-    match first_other(program.blocks(), packets.blocks()) {
-        Some(number) => other_document(alloc, number, program.blocks(), packets.blocks()),
-        None => blocks_document(alloc, program, packets),
-    }
+    let judged = judge(alloc, program, packets)?;
+    let blocks = program.blocks();
+    let listed = packets.blocks();
+    let text = judged_text(alloc, &judged, blocks, listed)?;
+    let same = judged.is_same();
+    Ok(CheckedDocument { text, same })
 }

@@ -1,10 +1,12 @@
-//! The first block that differs in its label, or that only one of the two has, as an object.
+//! The blocks that differ in their labels, or that only one of the two has, as objects.
 
-ghost use Rattle.std.specs.Prelude.{◌≡◌, [], ◌∷◌, codes, option_map, Some};
+ghost use Rattle.std.specs.Prelude.{◌≡◌, [], ◌∷◌, codes, option_map, slice_get, Some};
 ghost use Rattle.std.specs.Option.{option_copied};
 ghost use Rattle.json.specs.Token.{key};
 ghost use Rattle.c62_json.specs.Document.{Adds, object};
-ghost use Rattle.c62_json_check.specs.Members.{label_members, label_value};
+ghost use Rattle.c62_read.specs.Block.{labels_in};
+ghost use Rattle.c62_packet.specs.Packets.{labels_of};
+ghost use Rattle.c62_json_check.specs.Members.{first_object, label_members, label_value, objects_of, other_object};
 
 use c62_json::{push_count, push_flag, push_missing, push_text};
 use c62_packet::PacketBlock;
@@ -53,7 +55,7 @@ fn push_own(alloc: Global, out: &mut Writer, block: Option<&Block>) -> Result<()
 
 /// The block of this number, with its label in the listing and that in the text.
 #[tactic(auto, unfolding(crate::specs::Members::label_members))]
-pub(crate) fn push_labels(
+fn push_labels(
     alloc: Global,
     out: &mut Writer,
     number: usize,
@@ -69,4 +71,50 @@ pub(crate) fn push_labels(
     push_listed(alloc, out, listed)?;
     push_own(alloc, out, block)?;
     out.end_object()
+}
+
+/// The block of this number.
+fn push_other(
+    alloc: Global,
+    out: &mut Writer,
+    number: usize,
+    blocks: &[Block],
+    packets: &[PacketBlock],
+) -> Result<(), AllocError>
+    ensures { Adds result out.old out.new (other_object (labels_of packets.now) (labels_in blocks.now) number) }
+{
+    push_labels(alloc, out, number, packets.get(number), blocks.get(number))
+}
+
+/// The first of the blocks of these numbers.
+#[tactic(auto, unfolding(crate::specs::Members::first_object))]
+pub(crate) fn push_first(
+    alloc: Global,
+    out: &mut Writer,
+    others: &[usize],
+    blocks: &[Block],
+    packets: &[PacketBlock],
+) -> Result<(), AllocError>
+    ensures { Adds result out.old out.new (first_object (labels_of packets.now) (labels_in blocks.now) others.now) }
+{
+    match others {
+        [] => push_missing(out),
+        [number, ..] => push_other(alloc, out, *number, blocks, packets),
+    }
+}
+
+/// The blocks of these numbers.
+pub(crate) fn push_objects(
+    alloc: Global,
+    out: &mut Writer,
+    others: &[usize],
+    blocks: &[Block],
+    packets: &[PacketBlock],
+) -> Result<(), AllocError>
+    ensures { Adds result out.old out.new (objects_of (labels_of packets.now) (labels_in blocks.now) others.now) }
+{
+    for number in others {
+        push_other(alloc, out, *number, blocks, packets)?;
+    }
+    Ok(())
 }

@@ -133,8 +133,9 @@ pub(crate) fn stops(counter: Reg, insn: &Insn) -> bool
     is_guarded(counter, insn.cond()) && size_of(insn) == 1
 }
 
-/// Whether an instruction that writes the counter is a step, another that reads it is a test, and any other is no branch.
-pub(crate) fn counts(counter: Reg, number: u8, entry: &SerialInsn) -> bool
+/// Whether an instruction that writes the counter is a step, another that reads it is a test, and any other is no branch. The branches of
+/// the loop go to the label of this number.
+pub fn counts(counter: Reg, number: u8, entry: &SerialInsn) -> bool
     ensures { result ≡ counts counter number entry.now }
 {
     if is_written(counter, &entry.insn) {

@@ -23,7 +23,7 @@ mod unlined;
 
 pub use beyond::Beyond;
 pub use collapse::collapses;
-pub use counted::{is_counted_loop, touches};
+pub use counted::{counts, is_counted_loop, touches};
 pub use decision::decide;
 pub use early::Early;
 pub use parts::{Control, Pipelined, Region, Schedule, Stage};

@@ -73,34 +73,34 @@ page_head_is blocks others written =
     same_parts (begin ++ one) (begin ++ other) end end
     (same_parts begin begin one other refl (links_are blocks others 0 written.loops.items)) refl
 
-loop_head_is : (blocks others : List Serial) (number : ℕ) (given_up : Bool) (choice : Choice)
-    → owned (loop_head blocks number given_up choice) ≡ owned (loop_head others number given_up choice)
+loop_head_is : (blocks others : List Serial) (number : ℕ) (choice : Choice)
+    → owned (loop_head blocks number choice) ≡ owned (loop_head others number choice)
 unfolding loop_head
-loop_head_is blocks others number given_up choice =
+loop_head_is blocks others number choice =
     let begin = number_in LOOP_ID.now number (codes "'><h2>") in
-    let one = choice_line blocks given_up choice in
-    let other = choice_line others given_up choice in
+    let one = choice_line blocks choice in
+    let other = choice_line others choice in
     same_parts begin begin (text_in (codes "") one (codes "</h2>\n")) (text_in (codes "") other (codes "</h2>\n")) refl
     (other_text (codes "") one other (codes "</h2>\n"))
 
-loop_is : (blocks others : List Serial) (number : ℕ) (given_up : Bool) (choice : Choice)
-    → owned (loop_part blocks number given_up choice) ≡ owned (loop_part others number given_up choice)
+loop_is : (blocks others : List Serial) (number : ℕ) (choice : Choice)
+    → owned (loop_part blocks number choice) ≡ owned (loop_part others number choice)
 unfolding loop_part
-loop_is blocks others number given_up choice =
-    let one = loop_head blocks number given_up choice in
-    let other = loop_head others number given_up choice in
-    let rows = made_part given_up choice.made in
+loop_is blocks others number choice =
+    let one = loop_head blocks number choice in
+    let other = loop_head others number choice in
+    let rows = made_part choice.made in
     let end = own_piece SECTION_END.now in
     same_parts (one ++ rows) (other ++ rows) end end
-    (same_parts one other rows rows (loop_head_is blocks others number given_up choice) refl) refl
+    (same_parts one other rows rows (loop_head_is blocks others number choice) refl) refl
 
-loops_are : (blocks others : List Serial) (given_up number : ℕ) (choices : List Choice)
-    → owned (loops_from blocks given_up number choices) ≡ owned (loops_from others given_up number choices)
-loops_are blocks others given_up number [] = refl
-loops_are blocks others given_up number (choice ∷ rest) =
-    same_parts (loop_part blocks number (nat_lt number given_up) choice) (loop_part others number (nat_lt number given_up) choice)
-    (loops_from blocks given_up (number + 1) rest) (loops_from others given_up (number + 1) rest)
-    (loop_is blocks others number (nat_lt number given_up) choice) (loops_are blocks others given_up (number + 1) rest)
+loops_are : (blocks others : List Serial) (number : ℕ) (choices : List Choice)
+    → owned (loops_from blocks number choices) ≡ owned (loops_from others number choices)
+loops_are blocks others number [] = refl
+loops_are blocks others number (choice ∷ rest) =
+    same_parts (loop_part blocks number choice) (loop_part others number choice)
+    (loops_from blocks (number + 1) rest) (loops_from others (number + 1) rest)
+    (loop_is blocks others number choice) (loops_are blocks others (number + 1) rest)
 
 -- ---- both
 
@@ -113,14 +113,14 @@ own_is_the_same text other blocks others written same =
     let lines = text_part text written in
     let other_lines = text_part other written in
     let middle = own_piece BLOCKS_HEAD.now in
-    let loops = loops_from blocks written.given_up 0 written.loops.items in
-    let other_loops = loops_from others written.given_up 0 written.loops.items in
+    let loops = loops_from blocks 0 written.loops.items in
+    let other_loops = loops_from others 0 written.loops.items in
     let end = own_in BLOCKS_END.now SCRIPT.now PAGE_END.now in
     same_parts (((head ++ lines) ++ middle) ++ loops) (((other_head ++ other_lines) ++ middle) ++ other_loops) end end
     (same_parts ((head ++ lines) ++ middle) ((other_head ++ other_lines) ++ middle) loops other_loops
     (same_parts (head ++ lines) (other_head ++ other_lines) middle middle
     (same_parts head other_head lines other_lines (page_head_is blocks others written) (text_is text other written same)) refl)
-    (loops_are blocks others written.given_up 0 written.loops.items)) refl
+    (loops_are blocks others 0 written.loops.items)) refl
 
 pub angles_are_the_same : (text other : List ℕ) (blocks others : List Serial) (written : Pipelining)
     → AnglesAreTheSame text other blocks others written

@@ -70,7 +70,6 @@ kernel_table loop =
     own_in GRID_BEGIN.now KERNEL_COLUMNS.now ROWS_BEGIN.now ++ rows_from (epilog_of loop) 0 (kernel_of loop) ++ own_piece TABLE_END.now
 
 -- the table, where the loop has packets of its own
-abbrev pub made_part : (given_up : Bool) → Option Made → List Piece
-made_part true made = []
-made_part false None = []
-made_part false (Some made) = kernel_table made.pipelined
+abbrev pub made_part : Option Made → List Piece
+made_part None = []
+made_part (Some made) = kernel_table made.pipelined

@@ -1,5 +1,5 @@
 -- The page of a program's pipelined loops, beside the lines of its text (docs/PAGE.md, "Pipelined loops").
-use Rattle.std.specs.Prelude.{ℕ, ◌+◌, nat_lt, Bool, List, [], ◌∷◌, ◌++◌, codes, slice_get}
+use Rattle.std.specs.Prelude.{ℕ, ◌+◌, List, [], ◌∷◌, ◌++◌, codes, slice_get}
 use Rattle.c62_read.specs.Block.{Serial}
 use Rattle.c62_pipeline.specs.declared.chosen.Choice.{Choice}
 use Rattle.c62_pipeline.specs.declared.written.Pipelining.{Pipelining}
@@ -16,19 +16,18 @@ use Rattle.c62_page_loops.specs.Text.{text_part}
 -- ---- a loop
 
 -- what became of it, as a line tells
-unfoldable pub loop_head : List Serial → (number : ℕ) → (given_up : Bool) → Choice → List Piece
-loop_head blocks number given_up choice =
-    number_in LOOP_ID.now number (codes "'><h2>") ++ text_in (codes "") (choice_line blocks given_up choice) (codes "</h2>\n")
+unfoldable pub loop_head : List Serial → (number : ℕ) → Choice → List Piece
+loop_head blocks number choice =
+    number_in LOOP_ID.now number (codes "'><h2>") ++ text_in (codes "") (choice_line blocks choice) (codes "</h2>\n")
 
-unfoldable pub loop_part : List Serial → (number : ℕ) → (given_up : Bool) → Choice → List Piece
-loop_part blocks number given_up choice =
-    loop_head blocks number given_up choice ++ made_part given_up choice.made ++ own_piece SECTION_END.now
+unfoldable pub loop_part : List Serial → (number : ℕ) → Choice → List Piece
+loop_part blocks number choice =
+    loop_head blocks number choice ++ made_part choice.made ++ own_piece SECTION_END.now
 
--- the loops from this number on, where so many were given up
-abbrev pub loops_from : List Serial → (given_up number : ℕ) → List Choice → List Piece
-loops_from blocks given_up number [] = []
-loops_from blocks given_up number (choice ∷ rest) =
-    loop_part blocks number (nat_lt number given_up) choice ++ loops_from blocks given_up (number + 1) rest
+-- the loops from this number on
+abbrev pub loops_from : List Serial → (number : ℕ) → List Choice → List Piece
+loops_from blocks number [] = []
+loops_from blocks number (choice ∷ rest) = loop_part blocks number choice ++ loops_from blocks (number + 1) rest
 
 -- ---- the page
 
@@ -54,7 +53,7 @@ loops_page_pieces text blocks written =
     page_head blocks written
     ++ text_part text written
     ++ own_piece BLOCKS_HEAD.now
-    ++ loops_from blocks written.given_up 0 written.loops.items
+    ++ loops_from blocks 0 written.loops.items
     ++ own_in BLOCKS_END.now SCRIPT.now PAGE_END.now
 
 -- the bytes of the page

@@ -1,28 +1,21 @@
 -- The lines of the text beside the loops (docs/PAGE.md, "Pipelined loops").
-use Rattle.std.specs.Prelude.{ℕ, ◌+◌, nat_lt, Bool, true, false, ◌||◌, List, [], ◌∷◌, ◌++◌, Option, Some, None, codes}
+use Rattle.std.specs.Prelude.{ℕ, ◌+◌, Bool, false, List, [], ◌∷◌, ◌++◌, Option, Some, None, codes}
 use Rattle.std.specs.List.{list_any}
 use Rattle.c62_read.specs.Text.{lines_of}
 use Rattle.c62_modulo.specs.declared.made.Made.{Made}
-use Rattle.c62_pipeline.specs.declared.chosen.Choice.{Choice}
 use Rattle.c62_pipeline.specs.declared.written.Pipelining.{Pipelining}
 use Rattle.c62_pipeline.specs.Kernel.{has_line, kernel_of}
 use Rattle.c62_markup.specs.Page.{Piece, own_piece}
 use Rattle.c62_page.specs.Text.{line_row}
 
 -- an instruction of the line is in the kernel of a loop that has packets of its own
-abbrev pub kernel_has : ℕ → (given_up : Bool) → Option Made → Bool
-kernel_has line true made = false
-kernel_has line false None = false
-kernel_has line false (Some made) = list_any (has_line line) (kernel_of made.pipelined)
+abbrev pub kernel_has : ℕ → Option Made → Bool
+kernel_has line None = false
+kernel_has line (Some made) = list_any (has_line line) (kernel_of made.pipelined)
 
--- of one of the loops from this number on
-abbrev pub loops_have : ℕ → (given_up number : ℕ) → List Choice → Bool
-loops_have line given_up number [] = false
-loops_have line given_up number (choice ∷ rest) =
-    kernel_has line (nat_lt number given_up) choice.made || loops_have line given_up (number + 1) rest
-
+-- of one of the loops
 abbrev pub is_drawn : Pipelining → ℕ → Bool
-is_drawn written line = loops_have line written.given_up 0 written.loops.items
+is_drawn written line = list_any (λ choice. kernel_has line choice.made) written.loops.items
 
 abbrev pub lines_from : Pipelining → ℕ → List (List ℕ) → List Piece
 lines_from written number [] = []

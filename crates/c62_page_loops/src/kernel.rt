@@ -172,12 +172,11 @@ pub(crate) fn push_made(
     alloc: Global,
     out: &mut Vec<u8>,
     made: &Option<Made>,
-    is_given_up: bool,
 ) -> Result<(), AllocError>
-    ensures { OnOk result (Adds out.old.items (made_part is_given_up made.now) out.new.items) }
+    ensures { OnOk result (Adds out.old.items (made_part made.now) out.new.items) }
 {
     match made {
-        Some(made) if !is_given_up => push_kernel(alloc, out, &made.pipelined),
-        _ => Ok(()),
+        Some(made) => push_kernel(alloc, out, &made.pipelined),
+        None => Ok(()),
     }
 }

@@ -30,12 +30,12 @@ fn rows_have(rows: &[Row], line: u64) -> bool
 }
 
 /// Whether the kernel of a loop has, where the loop has packets of its own.
-fn kernel_has(made: &Option<Made>, is_given_up: bool, line: u64) -> bool
-    ensures { result ≡ kernel_has line is_given_up made.now }
+fn kernel_has(made: &Option<Made>, line: u64) -> bool
+    ensures { result ≡ kernel_has line made.now }
 {
     match made {
-        Some(made) if !is_given_up => rows_have(parts_of(&made.pipelined).kernel, line),
-        _ => false,
+        Some(made) => rows_have(parts_of(&made.pipelined).kernel, line),
+        None => false,
     }
 }
 
@@ -43,14 +43,10 @@ fn kernel_has(made: &Option<Made>, is_given_up: bool, line: u64) -> bool
 fn is_drawn(written: &Pipelining, line: u64) -> bool
     ensures { result ≡ is_drawn written.now line }
 {
-    let mut number = 0;
-    for choice in &written.loops {
-        if kernel_has(&choice.made, number < written.given_up, line) {
-            return true;
-        }
-        number += 1;
-    }
-    false
+    written
+        .loops
+        .iter()
+        .any(|choice| kernel_has(&choice.made, line))
 }
 
 /// The lines of a text.

@@ -26,16 +26,11 @@ fn name_at(alloc: Global, blocks: &[Block], number: u8) -> Result<String, AllocE
 }
 
 /// What became of a loop, as a line.
-fn choice_line(
-    alloc: Global,
-    blocks: &[Block],
-    choice: &Choice,
-    is_given_up: bool,
-) -> Result<String, AllocError>
-    ensures { IfOk result (λ text. string_bytes text ≡ choice_line blocks.now is_given_up choice.now) }
+fn choice_line(alloc: Global, blocks: &[Block], choice: &Choice) -> Result<String, AllocError>
+    ensures { IfOk result (λ text. string_bytes text ≡ choice_line blocks.now choice.now) }
 {
     let mut text = String::new(alloc);
-    push_choice(&mut text, blocks, choice, is_given_up)?;
+    push_choice(&mut text, blocks, choice)?;
     Ok(text)
 }
 
@@ -46,12 +41,11 @@ fn push_loop_head(
     out: &mut Vec<u8>,
     blocks: &[Block],
     number: u64,
-    is_given_up: bool,
     choice: &Choice,
 ) -> Result<(), AllocError>
-    ensures { OnOk result (Adds out.old.items (loop_head blocks.now number is_given_up choice.now) out.new.items) }
+    ensures { OnOk result (Adds out.old.items (loop_head blocks.now number choice.now) out.new.items) }
 {
-    let line = choice_line(alloc, blocks, choice, is_given_up)?;
+    let line = choice_line(alloc, blocks, choice)?;
     push_number_in(out, LOOP_ID, number, "'><h2>")?;
     push_text_in(out, "", line.as_bytes(), "</h2>\n")
 }
@@ -63,13 +57,12 @@ fn push_loop(
     out: &mut Vec<u8>,
     blocks: &[Block],
     number: u64,
-    is_given_up: bool,
     choice: &Choice,
 ) -> Result<(), AllocError>
-    ensures { OnOk result (Adds out.old.items (loop_part blocks.now number is_given_up choice.now) out.new.items) }
+    ensures { OnOk result (Adds out.old.items (loop_part blocks.now number choice.now) out.new.items) }
 {
-    push_loop_head(alloc, out, blocks, number, is_given_up, choice)?;
-    push_made(alloc, out, &choice.made, is_given_up)?;
+    push_loop_head(alloc, out, blocks, number, choice)?;
+    push_made(alloc, out, &choice.made)?;
     push_own(out, SECTION_END)
 }
 
@@ -80,12 +73,11 @@ fn push_loops(
     blocks: &[Block],
     written: &Pipelining,
 ) -> Result<(), AllocError>
-    ensures { OnOk result (Adds out.old.items (loops_from blocks.now written.now.given_up 0 written.now.loops.items) out.new.items) }
+    ensures { OnOk result (Adds out.old.items (loops_from blocks.now 0 written.now.loops.items) out.new.items) }
 {
     let mut number = 0;
     for choice in &written.loops {
-        let is_given_up = number < written.given_up;
-        push_loop(alloc, out, blocks, number as u64, is_given_up, choice)?;
+        push_loop(alloc, out, blocks, number, choice)?;
         number += 1;
     }
     Ok(())

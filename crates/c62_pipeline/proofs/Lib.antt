@@ -1,2 +1,4 @@
 mod Told
 mod Choosing
+mod GivingUp
+pub mod Lining

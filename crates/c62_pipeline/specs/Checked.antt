@@ -1,5 +1,5 @@
 -- Texts of packets that do what a program does (docs/SCHEDULING.md, "Loops of a program"; docs/CHECK.md, "The command").
-use Rattle.std.specs.Prelude.{◌≡◌, ◌⊎◌, ℕ, true, List, length, All}
+use Rattle.std.specs.Prelude.{◌≡◌, ◌⊎◌, ℕ, true, List, All, None}
 use Rattle.clap.specs.Words.{Text as Name}
 use Rattle.c62_op.specs.declared.register.Reg.{Reg}
 use Rattle.c62_read.specs.Block.{Serial}
@@ -21,10 +21,10 @@ pub record IsChecked (isa : InstructionSet) (trips : List (Name × ℕ)) (apart 
   pub lines : List ℕ
   pub told : AreLoopsTold trips apart blocks packets lines true true
 
--- each block has its own packets, of which this is the listing, and each loop was given up
+-- each block has its own packets, of which this is the listing, and each loop was left or given up
 pub record IsOwn (own : List ℕ) (written : Pipelining) : Type 0 where
   pub text : written.text.items ≡ own
-  pub none : written.given_up ≡ length written.loops.items
+  pub none : All (λ choice. choice.made ≡ None) written.loops.items
 
 -- What is written are packets that do what the program does, or each block's own, of which this is the listing; and what is told of each of
 -- its loops is true.

@@ -89,24 +89,22 @@ widths_of rows = fold (λ widths row. widths_with widths row.insns.items) least_
 abbrev pub kernel_text : Pipelined → List ℕ
 kernel_text loop = heads (widths_of (kernel_of loop)) ++ rows_text (widths_of (kernel_of loop)) (epilog_of loop) 0 (kernel_of loop)
 
-abbrev pub made_text : (given_up : Bool) → Option Made → List ℕ
-made_text true made = []
-made_text false None = []
-made_text false (Some made) = kernel_text made.pipelined
+abbrev pub made_text : Option Made → List ℕ
+made_text None = []
+made_text (Some made) = kernel_text made.pipelined
 
 -- what became of a loop, and below it its kernel, where it has one
-unfoldable pub choice_text : List Serial → (given_up : Bool) → Choice → List ℕ
-choice_text blocks given_up choice = choice_line blocks given_up choice ++ made_text given_up choice.made
+unfoldable pub choice_text : List Serial → Choice → List ℕ
+choice_text blocks choice = choice_line blocks choice ++ made_text choice.made
 
 -- an empty line stands between two loops
 abbrev pub gap : ℕ → List ℕ
 gap number = if number == 0 then [] else codes "\n"
 
--- the loops from this number on, where so many were given up
-abbrev pub kernels_from : List Serial → (given_up number : ℕ) → List Choice → List ℕ
-kernels_from blocks given_up number [] = []
-kernels_from blocks given_up number (choice ∷ choices) =
-    gap number ++ choice_text blocks (nat_lt number given_up) choice ++ kernels_from blocks given_up (number + 1) choices
+-- the loops from this number on
+abbrev pub kernels_from : List Serial → (number : ℕ) → List Choice → List ℕ
+kernels_from blocks number [] = []
+kernels_from blocks number (choice ∷ choices) = gap number ++ choice_text blocks choice ++ kernels_from blocks (number + 1) choices
 
 abbrev pub kernels : List Serial → Written → List ℕ
-kernels blocks written = kernels_from blocks written.given_up 0 written.loops.items
+kernels blocks written = kernels_from blocks 0 written.loops.items

@@ -6,7 +6,8 @@ ghost use Rattle.c62_loop_match.specs.declared.promise.Promise.{Promise as OfAcc
 ghost use Rattle.c62_loop_match.specs.Parts.{region_of as region_read};
 ghost use Rattle.c62_loop_match.specs.Promise.{promises};
 ghost use Rattle.c62_modulo.specs.Made.{IsMade};
-ghost use Rattle.c62_pipeline.specs.Chosen.{IsChosen, IsCountedAs, IsFound, IsReason, loop_alone, told_kept};
+ghost use Rattle.c62_check_loop.specs.Region.{last_of};
+ghost use Rattle.c62_pipeline.specs.Chosen.{IsChosen, IsCountedAs, IsFound, IsFromTrips, IsReason, UsesCounter, given_up, loop_alone, target_of};
 ghost use Rattle.c62_pipeline.specs.Limit.{IsLimitOf};
 ghost use Rattle.c62_command.specs.Promises.{trips_of};
 
@@ -17,11 +18,14 @@ use c62_check_loops::{is_granted, promise_of};
 use c62_command::{Promises, Trips};
 use c62_insn::{Operands, Reg};
 use c62_line::Label;
-use c62_loop_match::{Pipelined, Promise, Region, is_counted_loop};
+use c62_loop_match::{Pipelined, Promise, Region, counts, is_counted_loop};
 use c62_modulo::{Made, Shortness, Terms, pipelined};
 use c62_packet::PacketBlock;
 use c62_read::{Block, SerialInsn};
 use std::alloc::{AllocError, Global};
+
+/// No packets of a loop need more trips.
+const MOST_TRIPS: u32 = 256;
 
 /// What became of a loop.
 #[derive(Clone, Copy, PartialEq, Eq, Debug)]
@@ -35,12 +39,18 @@ pub enum Kept {
         /// Whether any packets of it can have a shorter trip.
         shortness: Shortness,
     },
+    /// It has so many blocks, and their packets.
+    Several(u16),
     /// It has the packets of its block: nothing counts its trips,
     NoCounter,
+    /// or the instruction of this line does more with this counter than to lower or test it,
+    Used(u32, Reg),
     /// or none of them are promised,
     NoTrips,
     /// or those that take fewer cycles a trip need the accesses of these two lines apart, which isn't promised,
     MayMeet(u32, u32),
+    /// or those need so many trips, and fewer are promised,
+    TooFew(u16),
     /// or none are found that take fewer cycles a trip within the trips that are promised,
     NotShorter,
     /// or those found aren't told to do the same.
@@ -97,13 +107,12 @@ impl Choice {
         self.made.is_some()
     }
 
-    /// What became of the loop, where it was given up or not.
-    pub(crate) fn told(&self, is_given_up: bool) -> Kept
-        ensures { result ≡ told_kept is_given_up self.now }
+    /// Gives up the packets that the loop has, as they aren't told to do the same.
+    pub(crate) fn give_up(&mut self)
+        ensures { self.new ≡ given_up self.old }
     {
-        match &self.made {
-            Some(_) if is_given_up => Kept::NotChecked,
-            _ => self.kept,
+        if self.made.is_some() {
+            *self = Choice::without(self.number, Kept::NotChecked);
         }
     }
 
@@ -127,14 +136,16 @@ fn most_trips(trips: &[Trips], label: &Label) -> u32 {
     most
 }
 
-/// Whether these end with a branch to the block of this number.
-fn is_loop(insns: &[SerialInsn], number: u8) -> bool {
+/// The number of the block to which the last of these branches.
+fn target_of(insns: &[SerialInsn]) -> Option<u8>
+    ensures { result ≡ target_of (last_of insns.now) }
+{
     match insns.last() {
         Some(last) => match last.insn.operands() {
-            Operands::Block(target) => target == number,
-            _ => false,
+            Operands::Block(target) => Some(target),
+            _ => None,
         },
-        None => false,
+        None => None,
     }
 }
 
@@ -157,10 +168,32 @@ fn is_found_apart(alloc: Global, region: &Region, terms: Terms) -> Result<bool, 
     Ok(pipelined(alloc, region, Terms { promise, ..terms })?.is_some())
 }
 
-/// Why no packets are found of a loop: two accesses that may meet, if it lies at these.
-fn reason_of(alloc: Global, region: &Region, terms: Terms) -> Result<Kept, AllocError>
-    ensures { IfOk result (IsReason terms.promise (region_read region.now).body) }
+/// How many trips packets of a loop need, where they are found.
+fn trips_needed(alloc: Global, region: &Region, terms: Terms) -> Result<Option<u16>, AllocError>
+    ensures { IfOk result (λ needed. IfSome needed (IsFromTrips terms.promise (region_read region.now))) }
 {
+    match pipelined(alloc, region, terms)? {
+        Some(made) => Ok(Some(u16::from(made.most) + 1)),
+        None => Ok(None),
+    }
+}
+
+/// Why no packets are found of a loop: too few trips, or two accesses that may meet, if it lies at these.
+fn reason_of(alloc: Global, region: &Region, terms: Terms) -> Result<Kept, AllocError>
+    ensures { IfOk result (IsReason terms.promise (region_read region.now)) }
+{
+    if terms.trips < MOST_TRIPS
+        && let Some(needed) = trips_needed(
+            alloc,
+            region,
+            Terms {
+                trips: MOST_TRIPS,
+                ..terms
+            },
+        )?
+    {
+        return Ok(Kept::TooFew(needed));
+    }
     match meeting_in(terms.promise, &region.body) {
         Some(Meeting { first, second }) if is_found_apart(alloc, region, terms)? => {
             Ok(Kept::MayMeet(first, second))
@@ -230,6 +263,19 @@ fn counted(
     found(alloc, region, terms)
 }
 
+/// The line of the first of these that does more with the counter than to lower or test it.
+fn used_in(entries: &[SerialInsn], number: u8, counter: Reg) -> Option<u32>
+    ensures { IfSome result (UsesCounter counter number entries.now) }
+{
+    for place in 0..entries.len() {
+        let entry = entries[place];
+        if !counts(counter, number, &entry) {
+            return Some(entry.line);
+        }
+    }
+    None
+}
+
 /// What is found for a block that is a loop: that with this number, and this label.
 fn loop_choice(
     alloc: Global,
@@ -248,9 +294,11 @@ fn loop_choice(
     };
     let region = region_of(alloc, block, number, counter)?;
     if is_counted_loop(&region) {
-        counted(alloc, label, &region, longest, promises)
-    } else {
-        Ok(Choice::without(number, Kept::NoCounter))
+        return counted(alloc, label, &region, longest, promises);
+    }
+    match used_in(block.insns(), number, counter) {
+        Some(line) => Ok(Choice::without(number, Kept::Used(line, counter))),
+        None => Ok(Choice::without(number, Kept::NoCounter)),
     }
 }
 
@@ -268,8 +316,11 @@ pub(crate) fn choice_of(
 ) -> Result<Option<Choice>, AllocError>
     ensures { IfOk result (λ choice. IfSome choice (IsChosen (map trips_of promises.now.trips.items) promises.now.apart.items blocks.now)) }
 {
-    match blocks.get(usize::from(number)) {
-        Some(block) if is_loop(block.insns(), number) => Ok(Some(loop_choice(
+    let Some(block) = blocks.get(usize::from(number)) else {
+        return Ok(None);
+    };
+    match target_of(block.insns()) {
+        Some(target) if target == number => Ok(Some(loop_choice(
             alloc,
             blocks,
             block,
@@ -277,6 +328,10 @@ pub(crate) fn choice_of(
             own.length(),
             promises,
         )?)),
+        Some(target) if target < number => Ok(Some(Choice::without(
+            target,
+            Kept::Several(u16::from(number - target) + 1),
+        ))),
         _ => Ok(None),
     }
 }

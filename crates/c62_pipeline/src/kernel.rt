@@ -313,17 +313,12 @@ fn push_kernel(alloc: Global, out: &mut String, pipelined: &Pipelined) -> Result
     push_rows(alloc, out, widths, parts.epilog, parts.kernel)
 }
 
-fn push_made(
-    alloc: Global,
-    out: &mut String,
-    made: &Option<Made>,
-    is_given_up: bool,
-) -> Result<(), AllocError>
-    ensures { OnOk result (AddsText out.old (made_text is_given_up made.now) out.new) }
+fn push_made(alloc: Global, out: &mut String, made: &Option<Made>) -> Result<(), AllocError>
+    ensures { OnOk result (AddsText out.old (made_text made.now) out.new) }
 {
     match made {
-        Some(made) if !is_given_up => push_kernel(alloc, out, &made.pipelined),
-        _ => Ok(()),
+        Some(made) => push_kernel(alloc, out, &made.pipelined),
+        None => Ok(()),
     }
 }
 
@@ -334,12 +329,11 @@ fn push_whole(
     out: &mut String,
     blocks: &[Block],
     choice: &Choice,
-    is_given_up: bool,
 ) -> Result<(), AllocError>
-    ensures { OnOk result (AddsText out.old (choice_text blocks.now is_given_up choice.now) out.new) }
+    ensures { OnOk result (AddsText out.old (choice_text blocks.now choice.now) out.new) }
 {
-    push_choice(out, blocks, choice, is_given_up)?;
-    push_made(alloc, out, &choice.made, is_given_up)
+    push_choice(out, blocks, choice)?;
+    push_made(alloc, out, &choice.made)
 }
 
 /// An empty line above each loop but the first.
@@ -365,7 +359,7 @@ pub fn kernels(alloc: Global, blocks: &[Block], written: &Pipelining) -> Result<
     let mut number = 0;
     for choice in &written.loops {
         push_gap(&mut out, number)?;
-        push_whole(alloc, &mut out, blocks, choice, number < written.given_up)?;
+        push_whole(alloc, &mut out, blocks, choice)?;
         number += 1;
     }
     Ok(out)

@@ -9,6 +9,7 @@ pub mod laws;
 mod limit;
 mod lines;
 mod meeting;
+mod origin;
 mod splice;
 mod written;
 
@@ -17,4 +18,5 @@ pub use kernel::{Parts, has_line, kernels, later, parts_of, push_range, stage_of
 pub use limit::Limit;
 pub use lines::{loop_lines, push_choice, push_name_at};
 pub use meeting::{Meeting, meeting_in};
+pub use origin::{Origin, lined, origins_of};
 pub use written::{Pipelining, pipeline};

@@ -7,7 +7,7 @@ use c62_read::{Block, first_line};
 use std::alloc::{AllocError, Global};
 
 /// The packets that the block of this number has in place of its own.
-fn others_of<'a>(choices: &'a [Choice], number: usize) -> Option<&'a Pipelined> {
+pub(crate) fn others_of<'a>(choices: &'a [Choice], number: usize) -> Option<&'a Pipelined> {
     choices
         .iter()
         .find(|choice| usize::from(choice.number) == number)?

@@ -4,7 +4,7 @@ ghost use Rattle.std.specs.Prelude.{◌≡◌, IfOk, IfSome, IsTrue, OnOk, All, 
 ghost use Rattle.c62_packet.specs.Packets.{is_closed};
 ghost use Rattle.c62_listing.specs.Listing.{listing};
 ghost use Rattle.c62_command.specs.Promises.{trips_of};
-ghost use Rattle.c62_pipeline.specs.Chosen.{IsChosen};
+ghost use Rattle.c62_pipeline.specs.Chosen.{IsChosen, given_up};
 ghost use Rattle.c62_pipeline.specs.Checked.{IsChecked, IsWritten, IsWrittenOf};
 
 use crate::checked::is_checked;
@@ -22,10 +22,8 @@ use std::alloc::{AllocError, Global};
 pub struct Pipelining {
     /// The text of the packets.
     pub text: Vec<u8>,
-    /// What is found for each block that is a loop, in their order.
+    /// What became of each block that is a loop, in their order.
     pub loops: Vec<Choice>,
-    /// So many of these, from the first on, have their block's packets all the same, as what is found isn't told to do what they do.
-    pub given_up: usize,
 }
 
 /// Adds what is found for the block of this number, where it is a loop.
@@ -88,8 +86,63 @@ fn checked_text(
     }
 }
 
-/// Packets with as many of these choices as are told to do what the program does: where all together aren't, one after the other is given
-/// up. Where none is left, each block has its own.
+/// Gives up the packets of each of these.
+fn give_all_up(choices: &mut [Choice])
+    ensures { choices.new ≡ map given_up choices.old }
+{
+    for choice in choices.iter_mut() {
+        choice.give_up();
+    }
+}
+
+/// Each block's own packets, of which this is the listing.
+fn own_packets(
+    isa: InstructionSet,
+    program: &Program,
+    listing: Vec<u8>,
+    choices: Vec<Choice>,
+    promises: &Promises,
+) -> Pipelining
+    requires { All (IsChosen (map trips_of promises.now.trips.items) promises.now.apart.items program.now) choices.items }
+    ensures { IsWrittenOf isa (map trips_of promises.now.trips.items) promises.now.apart.items program.now listing.items result }
+{
+    let mut loops = choices;
+    give_all_up(&mut loops);
+    Pipelining {
+        text: listing,
+        loops,
+    }
+}
+
+/// Packets with each of these choices that, beside those in front of it, is told to do what the program does. The others are given up. Where
+/// none is left, each block has its own.
+fn sifted(
+    isa: InstructionSet,
+    alloc: Global,
+    program: &Program,
+    listing: Vec<u8>,
+    choices: Vec<Choice>,
+    promises: &Promises,
+) -> Result<Pipelining, AllocError>
+    requires { All (IsChosen (map trips_of promises.now.trips.items) promises.now.apart.items program.now) choices.items }
+    ensures { IfOk result (IsWrittenOf isa (map trips_of promises.now.trips.items) promises.now.apart.items program.now listing.items) }
+{
+    let mut loops = choices;
+    let mut last = None;
+    for number in 0..loops.len() {
+        let tried = &loops[..number + 1];
+        match checked_text(isa, alloc, program, &listing, tried, promises)? {
+            Some(text) => last = Some(text),
+            None => loops[number].give_up(),
+        }
+    }
+    match last {
+        Some(text) => Ok(Pipelining { text, loops }),
+        None => Ok(own_packets(isa, program, listing, loops, promises)),
+    }
+}
+
+/// Packets with all of these choices that are told to do what the program does.
 fn written_of(
     isa: InstructionSet,
     alloc: Global,
@@ -101,25 +154,16 @@ fn written_of(
     requires { All (IsChosen (map trips_of promises.now.trips.items) promises.now.apart.items program.now) choices.items }
     ensures { IfOk result (IsWrittenOf isa (map trips_of promises.now.trips.items) promises.now.apart.items program.now listing.items) }
 {
-    for given_up in 0..choices.len() {
-        let left = &choices[given_up..];
-        if !left.iter().any(|choice| choice.is_pipelined()) {
-            break;
-        }
-        if let Some(text) = checked_text(isa, alloc, program, &listing, left, promises)? {
-            return Ok(Pipelining {
-                text,
-                loops: choices,
-                given_up,
-            });
-        }
+    if !choices.iter().any(|choice| choice.is_pipelined()) {
+        return Ok(own_packets(isa, program, listing, choices, promises));
     }
-    let given_up = choices.len();
-    Ok(Pipelining {
-        text: listing,
-        loops: choices,
-        given_up,
-    })
+    match checked_text(isa, alloc, program, &listing, &choices, promises)? {
+        Some(text) => Ok(Pipelining {
+            text,
+            loops: choices,
+        }),
+        None => sifted(isa, alloc, program, listing, choices, promises),
+    }
 }
 
 /// The listing of packets.

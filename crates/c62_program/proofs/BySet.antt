@@ -10,7 +10,7 @@ use Rattle.c62_drawing.specs.declared.run.Traced.{Traced}
 use Rattle.c62_files.specs.Expand.{Holding}
 use Rattle.c62_program.specs.declared.page.TheConstants.{ISA}
 use Rattle.c62_program.specs.Sets.{IsSetRun, Misnamed, Named}
-use Rattle.c62_program.specs.Whole.{IsProgramRun}
+use Rattle.c62_program.specs.Labels.{IsReadRun}
 
 pub misnamed : (before : Holding) (words : List Text) (input output old new : Option (List ℕ)) (status : ℕ)
     (traced : Traced)
@@ -20,7 +20,7 @@ misnamed before words input output old new status traced none is says = Misnamed
 
 pub named : (isa : InstructionSet) (before after : Holding) (words others : List Text) (old new : Streams) (status : ℕ)
     (traced : Traced)
-    → asked_set words ≡ Some isa → others ≡ other_words words → IsProgramRun isa before after others old new status traced
+    → asked_set words ≡ Some isa → others ≡ other_words words → IsReadRun isa before after others old new status traced
     → IsSetRun before after words old new status traced
 named isa before after words others old new status traced some same run =
-    Named isa some (subst (λ (o : List Text). IsProgramRun isa before after o old new status traced) same run)
+    Named isa some (subst (λ (o : List Text). IsReadRun isa before after o old new status traced) same run)

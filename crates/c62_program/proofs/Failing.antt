@@ -32,7 +32,7 @@ use Rattle.c62_op.specs.declared.set.InstructionSet.{InstructionSet}
 pub memory_with : (source : From) (trouble : Trouble) → trouble ≡ Memory → IsTroubleWithSource source trouble
 memory_with Standard trouble is = rw is tt
 memory_with (File name) trouble is = rw is tt
-memory_with (Named name) trouble is = rw is tt
+memory_with (Named text listing) trouble is = rw is tt
 memory_with (Parts text listing) trouble is = inl (rw is tt)
 
 -- ---- what is said
@@ -70,7 +70,7 @@ not_words (NotRead unread) error same = not_read unread.name unread.error error 
 not_source : (source : From) (error : CallError) → IsTroubleWithSource source (NoCall error) → ⊥
 not_source Standard error with = with
 not_source (File name) error with = with
-not_source (Named name) error with = with
+not_source (Named text listing) error with = with
 not_source (Parts text listing) error (inl with) = with
 not_source (Parts text listing) error (inr with) = with
 

@@ -5,3 +5,4 @@ pub mod Calling
 pub mod Dumps
 pub mod Traced
 pub mod BySet
+pub mod Labelled

@@ -6,4 +6,5 @@ pub mod Teaching
 pub mod Program
 pub mod Tracing
 pub mod Whole
+pub mod Labels
 pub mod Sets

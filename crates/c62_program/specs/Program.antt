@@ -57,7 +57,7 @@ pub record AreParts (holds : Holding) (input : Option (List ℕ)) (text listing 
 abbrev pub IsGiven : Holding → (input : Option (List ℕ)) → From → List ℕ → Type 0
 IsGiven holds input Standard bytes = IsHeld holds input (codes "-") bytes
 IsGiven holds input (File name) bytes = IsHeld holds input name bytes
-IsGiven holds input (Named name) bytes = IsHeld holds input (codes "-") bytes
+IsGiven holds input (Named text listing) bytes = IsHeld holds input (codes "-") bytes
 IsGiven holds input (Parts text listing) bytes = AreParts holds input text listing bytes
 
 -- the words ask for nothing

@@ -10,7 +10,7 @@ use Rattle.c62_files.specs.Expand.{Holding}
 use Rattle.c62_drawing.specs.declared.run.Traced.{Traced}
 use Rattle.std.specs.Io.KnownBytes.{Keeps}
 use Rattle.c62_program.specs.Trouble.{Says, status_of}
-use Rattle.c62_program.specs.Whole.{IsProgramRun}
+use Rattle.c62_program.specs.Labels.{IsReadRun}
 use Rattle.c62_program.specs.declared.page.TheConstants.{ISA}
 use Rattle.c62_program.specs.declared.trouble.Trouble.TheVariants.{Memory}
 
@@ -20,12 +20,12 @@ pub data IsSetRun (before after : Holding) (words : List Text) (old new : Stream
       → IsSetRun before after words old new status traced
   Exhausted : status ≡ status_of Memory → Says Tells Memory old.errors new.errors → Keeps old.output new.output → after ≡ before
       → IsSetRun before after words old new status traced
-  Named : (isa : InstructionSet) → asked_set words ≡ Some isa → IsProgramRun isa before after (other_words words) old new status traced
+  Named : (isa : InstructionSet) → asked_set words ≡ Some isa → IsReadRun isa before after (other_words words) old new status traced
       → IsSetRun before after words old new status traced
 
 abbrev pub by_set : Bool → (before after : Holding) → List Text → (old new : Streams) → (status : ℕ) → Traced → Type 0
 by_set true before after words old new status traced = IsSetRun before after words old new status traced
-by_set false before after words old new status traced = IsProgramRun Core before after words old new status traced
+by_set false before after words old new status traced = IsReadRun Core before after words old new status traced
 
 -- without `--isa` the core of the instructions
 abbrev pub IsRunBySet : (before after : Holding) → List Text → (old new : Streams) → (status : ℕ) → Traced → Type 0

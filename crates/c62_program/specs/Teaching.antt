@@ -21,14 +21,14 @@ use Rattle.c62_op.specs.declared.set.InstructionSet.{InstructionSet}
 abbrev pub text_name : From → Text
 text_name Standard = codes "-"
 text_name (File name) = name
-text_name (Named name) = name
+text_name (Named text listing) = text
 text_name (Parts text listing) = text
 
 -- the same of the listing of a check
 abbrev pub listing_name : From → Text
 listing_name Standard = codes "-"
 listing_name (File name) = name
-listing_name (Named name) = name
+listing_name (Named text listing) = listing
 listing_name (Parts text listing) = listing
 
 -- ---- lint

@@ -7,7 +7,7 @@ use Rattle.c62_answer.specs.Run.{Streams, streams}
 use Rattle.c62_command.specs.CommandLine.{ask_told, asked}
 use Rattle.c62_command.specs.declared.command.Command.{Command}
 use Rattle.c62_command.specs.declared.command.Request.{Request}
-use Rattle.c62_files.specs.Call.{From, IsCall, IsMistake, File, Named, text_source}
+use Rattle.c62_files.specs.Call.{From, IsCall, IsMistake, File, Named, Parts, text_source}
 use Rattle.c62_files.specs.Expand.{Expands, Holding}
 use Rattle.c62_files.specs.Words.{Plain, text_piece}
 use Rattle.c62_files.specs.Writing.{IsFinished, IsReplaced}
@@ -95,7 +95,8 @@ FindsCommand words (Some command) = asked (plain_words words) ≡ Some (ask_told
 
 -- a source whose bytes were read
 abbrev pub read_source : From → From
-read_source (File name) = Named name
+read_source (File name) = Named name name
+read_source (Parts text listing) = Named text listing
 read_source source = source
 
 -- the call of these words on that, whose answer and memory go where those of a call go

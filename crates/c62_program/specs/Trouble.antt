@@ -46,7 +46,7 @@ IsTroubleWith name _ = ⊥
 abbrev pub IsTroubleWithSource : From → Trouble → Type 0
 IsTroubleWithSource Standard trouble = IsTroubleWith (codes "-") trouble
 IsTroubleWithSource (File name) trouble = IsTroubleWith name trouble
-IsTroubleWithSource (Named name) trouble = IsTroubleWith (codes "-") trouble
+IsTroubleWithSource (Named text listing) trouble = IsTroubleWith (codes "-") trouble
 IsTroubleWithSource (Parts text listing) trouble = IsTroubleWith text trouble ⊎ IsTroubleWith listing trouble
 
 -- writing the file of this name

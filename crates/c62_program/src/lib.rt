@@ -4,6 +4,7 @@
 mod dumping;
 mod ended;
 mod joined;
+mod labels;
 mod page;
 mod program;
 mod sets;
@@ -14,5 +15,5 @@ mod trouble;
 mod written;
 
 pub use ended::Ended;
-pub use page::{EXPLAIN, ISA, LINT, TRACE};
+pub use page::{EXPLAIN, ISA, LABELS, LINT, TRACE};
 pub use sets::run_program;

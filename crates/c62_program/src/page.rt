@@ -54,6 +54,7 @@ Options:
       --most <N>         Prints at most N faults, 1 to 1000; 100 where none is given
       --json             Writes the same as a JSON document
       --isa <SET>        Takes the instructions of this set, core or full; core where none is given
+      --labels <STYLE>   With gnu, takes labels that begin with a dot too
       --settings <FILE>  Takes the words of a file, in its place
   -o <FILE>              Writes the answer to a file
 
@@ -76,6 +77,13 @@ Example:
 /// What is told where no set of instructions is named.
 pub const ISA: &str = "\
 error: '--isa' takes 'core' or 'full', once
+
+For more information, try '--help'.
+";
+
+/// What is told where labels are asked for in no way that is known.
+pub const LABELS: &str = "\
+error: '--labels' takes 'gnu', once
 
 For more information, try '--help'.
 ";

@@ -89,7 +89,7 @@ pub(crate) fn given<'a, F: Folder, R: Read>(
     ensures err { IfErr result (IsTroubleWithSource (text_source source.entry)) }
 {
     match source {
-        Source::Standard | Source::Named(_) => part_of(alloc, folder, "-", input),
+        Source::Standard | Source::Named(_, _) => part_of(alloc, folder, "-", input),
         Source::File(name) => part_of(alloc, folder, name, input),
         Source::Parts(text, listing) => parts_of(alloc, folder, text, listing, input),
     }

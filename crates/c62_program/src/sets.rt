@@ -7,8 +7,8 @@ ghost use Rattle.c62_isa.specs.Words.{asked_set, asks_set, other_words};
 ghost use Rattle.c62_program.specs.Sets.{IsRunBySet, IsSetRun};
 
 use crate::ended::Ended;
+use crate::labels::run_reading;
 use crate::page::ISA;
-use crate::program::run_with;
 use crate::tracing::tell_trouble;
 use crate::trouble::Trouble;
 use c62_answer::write_whole;
@@ -57,7 +57,7 @@ fn run_by_set<
         Ok(others) => others,
         Err(_) => return tell_trouble(&Trouble::Memory, errors),
     };
-    run_with(isa, rt, folder, &others, input, output, errors)
+    run_reading(isa, rt, folder, &others, input, output, errors)
 }
 
 /// Runs the program on these words, which are those after its name. Answers the status, the stream of errors, which is
@@ -83,7 +83,7 @@ pub fn run_program<
     if asks_set(words) {
         return run_by_set(rt, folder, words, input, output, errors);
     }
-    run_with(
+    run_reading(
         InstructionSet::Core,
         rt,
         folder,

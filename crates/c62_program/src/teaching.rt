@@ -37,11 +37,11 @@ fn names_of<'a>(source: Source<'a>) -> Names<'a>
             text: "-",
             listing: "-",
         },
-        Source::File(name) | Source::Named(name) => Names {
+        Source::File(name) => Names {
             text: name,
             listing: name,
         },
-        Source::Parts(text, listing) => Names { text, listing },
+        Source::Named(text, listing) | Source::Parts(text, listing) => Names { text, listing },
     }
 }
 

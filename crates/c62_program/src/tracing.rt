@@ -207,7 +207,7 @@ fn write_traced<'a, F: Folder, E: Write + Drop>(
 
 /// The command that words ask for; none where they are refused.
 #[tactic(auto, using(crate::proofs::Traced::refused))]
-fn command_for(alloc: Global, words: &[String]) -> Result<Option<Command>, AllocError>
+pub(crate) fn command_for(alloc: Global, words: &[String]) -> Result<Option<Command>, AllocError>
     ensures { IfOk result (FindsCommand (map string_bytes words.now)) }
 {
     let plain = plain_words(alloc, words)?;
@@ -223,8 +223,9 @@ fn read_source<'a>(source: Source<'a>) -> Source<'a>
     ensures { text_source result ≡ read_source (text_source source.entry) }
 {
     match source {
-        Source::File(name) => Source::Named(name),
-        Source::Standard | Source::Named(_) | Source::Parts(_, _) => source,
+        Source::File(name) => Source::Named(name, name),
+        Source::Parts(text, listing) => Source::Named(text, listing),
+        Source::Standard | Source::Named(_, _) => source,
     }
 }
 
@@ -333,7 +334,7 @@ fn end_on<
 
 /// Does what a call of these words asks for, on a text that was read, or on what its source gives.
 #[tactic(auto, using(crate::proofs::Traced::unread, crate::proofs::Traced::read))]
-fn answer_call<
+pub(crate) fn answer_call<
     't,
     'w,
     'a: 'w,
@@ -380,7 +381,7 @@ fn answer_call<
 }
 
 /// The bytes of a text, where there is one.
-fn bytes_of(text: &Option<Vec<u8>>) -> Option<&[u8]>
+pub(crate) fn bytes_of(text: &Option<Vec<u8>>) -> Option<&[u8]>
     ensures { option_map (λ bytes. bytes.now) result ≡ option_map (λ bytes. bytes.items) text.now }
 {
     match text {

@@ -80,7 +80,7 @@ pub(crate) fn copies(alloc: Global, text: &str) -> Option<Came> {
 pub(crate) fn checks(alloc: Global, text: &'static str) -> Option<Came> {
     twice(packets_in(alloc, text)?, |packets| {
         let program = program_of(alloc, text)?;
-        let checked = check(alloc, program, packets).ok()?;
+        let checked = check(alloc, &program, packets).ok()?;
         Some(look_of(&(checked.text.as_slice(), checked.same), packets))
     })
 }

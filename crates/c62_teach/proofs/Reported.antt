@@ -27,8 +27,8 @@ use Rattle.c62_answer.specs.declared.outcome.Outcome.{Outcome}
 use Rattle.c62_answer.specs.Run.{IsFlown, IsOpening, IsPacketReport, with_setting, with_settings}
 use Rattle.c62_answer.specs.Texts.{IsNoProgram, SaysProgram}
 use Rattle.c62_answer.proofs.OneText.{one_program}
-use Rattle.c62_teach.specs.Faulted.{TellsFlight, TellsIf, TellsPackets, TellsProgram, TellsReported, TellsRun}
-use Rattle.c62_teach.specs.Faulted.{TellsRunBy, TellsStrict}
+use Rattle.c62_answer.specs.Run.{TellsFlightFaults, TellsIf, TellsRunBy}
+use Rattle.c62_teach.specs.Faulted.{TellsPackets, TellsProgram, TellsReported, TellsRun, TellsStrict}
 use Rattle.c62_op.specs.declared.set.InstructionSet.{InstructionSet}
 
 -- ---- one opening
@@ -133,7 +133,7 @@ packet_lines packets settings course outcome answer more tells report =
 
 pub flight_lines : (flying : FlightText) (labels : List (Name × ℕ)) (first : ℕ) (settings : List Setting)
     (course : FlightCourse) (outcome : Outcome) (answer more : List ℕ)
-    → TellsFlight flying first settings course more
+    → TellsFlightFaults flying first settings course more
     → (report : IsFlown flying labels first settings course outcome answer)
     → TellsReported report.opening.base more report.final
 flight_lines flying labels first settings course outcome answer more tells report =

@@ -30,7 +30,8 @@ use Rattle.c62_command.specs.declared.command.Form.TheVariants.{Listed, Written}
 use Rattle.c62_command.specs.declared.flight.FlightCourse.{FlightCourse}
 use Rattle.c62_answer.specs.Message.{adopt_message, fault_message, list_message, rows_message}
 use Rattle.c62_answer.specs.Texts.{SaysProgram}
-use Rattle.c62_teach.specs.Faulted.{TellsCode, TellsFlight, TellsPackets, TellsProgram, TellsRows, TellsRun}
+use Rattle.c62_answer.specs.Run.{TellsFlightFaults}
+use Rattle.c62_teach.specs.Faulted.{TellsCode, TellsPackets, TellsProgram, TellsRows, TellsRun}
 use Rattle.c62_teach.specs.Faulted.{TellsStanding, TellsTaken}
 use Rattle.c62_read.specs.Program.{Fails}
 use Rattle.c62_op.specs.declared.set.InstructionSet.{InstructionSet}
@@ -87,7 +88,7 @@ issuable isa code from begun begins = rows_are_issuable begun.rows begins.rows
 pub rows_some : (isa : InstructionSet) (from : Option Text) (settings : List Setting) (course : FlightCourse)
     (code more : List ℕ)
     (begun : Begun)
-    → BeginsAs isa code from begun → TellsFlight (text_of begun.rows) begun.first settings course more
+    → BeginsAs isa code from begun → TellsFlightFaults (text_of begun.rows) begun.first settings course more
     → TellsRows isa from settings course code more
 rows_some isa from settings course code more begun begins tells =
     inl (text_of begun.rows, begun.first, begins.is_text, tells)

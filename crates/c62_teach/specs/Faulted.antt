@@ -16,7 +16,6 @@ use Rattle.c62_faulted.specs.declared.fault.Fault.{Fault}
 use Rattle.c62_faulted.specs.Faulted.{FindsFaults, has_line}
 use Rattle.c62_faulted.specs.Sentence.{fault_text}
 use Rattle.c62_faulted_packets.specs.Chain.{FindsPacketFaults}
-use Rattle.c62_faulted_packets.specs.Flight.{FindsFlightFaults}
 use Rattle.c62_command.specs.declared.setting.Setting.{Setting}
 use Rattle.c62_command.specs.declared.command.Course.{Course}
 use Rattle.c62_command.specs.declared.command.Form.{Form}
@@ -25,18 +24,10 @@ use Rattle.c62_command.specs.declared.flight.FlightCourse.{FlightCourse}
 use Rattle.c62_command.specs.CommandLine.{Ask, SerialReport, PacketReport, StandingReport, FlightReport, Reaching, Document}
 use Rattle.c62_answer.specs.declared.outcome.Outcome.{Outcome}
 use Rattle.c62_answer.specs.Texts.{IsNoProgram, IsUncoded, IsUnreached, SaysNoPackets, SaysPackets, SaysProgram}
-use Rattle.c62_answer.specs.Run.{IsFlown, IsOpening, IsPacketReport, IsRunReport, IsSerialReport}
+use Rattle.c62_answer.specs.Run.{IsFlown, IsPacketReport, IsRunReport, IsSerialReport, TellsFlightFaults, TellsIf, TellsRunBy}
 use Rattle.c62_op.specs.declared.set.InstructionSet.{InstructionSet}
 
 -- ---- runs
-
--- Of a run from zeros with these settings that finds its faults so: a line for each line's first fault.
-pub record TellsRunBy (Finds : Machine → List Fault → Type 0) (settings : List Setting) (more : List ℕ) : Type 0 where
-  pub opening : Machine
-  pub begin : IsOpening settings opening
-  pub faults : List Fault
-  pub found : Finds opening faults
-  pub told : more ≡ flat_map (fault_text opening.base) faults
 
 -- of a program's serial run on this course
 abbrev pub TellsRun : List Serial → List Setting → Course → (more : List ℕ) → Type 0
@@ -45,10 +36,6 @@ TellsRun program settings course more = TellsRunBy (λ opening faults. FindsFaul
 -- of such a run of packets as they stand
 abbrev pub TellsPackets : List Packed → List Setting → Course → (more : List ℕ) → Type 0
 TellsPackets packets settings course more = TellsRunBy (λ opening faults. FindsPacketFaults packets opening course.blocks faults) settings more
-
--- and of one of a text of packets in flight, from this row on
-abbrev pub TellsFlight : FlightText → (first : ℕ) → List Setting → FlightCourse → (more : List ℕ) → Type 0
-TellsFlight flying first settings course more = TellsRunBy (λ opening faults. FindsFlightFaults flying first course.cycles opening faults) settings more
 
 -- ---- texts
 
@@ -67,7 +54,7 @@ TellsStanding isa form settings course text more =
 -- these lines of code are rows, of whose run in flight this is told, or they are refused, and nothing is told
 abbrev pub TellsRows : InstructionSet → Option Text → List Setting → FlightCourse → (code more : List ℕ) → Type 0
 TellsRows isa from settings course code more =
-    ((flying : FlightText) × (first : ℕ) × IsTextFrom isa code from flying first × TellsFlight flying first settings course more)
+    ((flying : FlightText) × (first : ℕ) × IsTextFrom isa code from flying first × TellsFlightFaults flying first settings course more)
     ⊎ ((fault : RowsFault) × (fault ≢ NoPlace) × RefusesFrom isa code from fault × (more ≡ []))
 
 -- the text has such code, or none, and nothing is told
@@ -83,11 +70,6 @@ TellsTaken isa name from settings course text more =
     ⊎ ((message : List ℕ) × IsUnreached isa name text message × (more ≡ []))
 
 -- ---- what is asked
-
--- of a strict run this is told, and of another nothing
-abbrev pub TellsIf : (strict : Bool) → Type 0 → (more : List ℕ) → Type 0
-TellsIf false Told more = more ≡ []
-TellsIf true Told more = Told
 
 abbrev pub TellsStrict : InstructionSet → List Setting → Course → (text more : List ℕ) → Type 0
 TellsStrict isa settings course text more = TellsIf course.strict (TellsProgram isa settings course text more) more
@@ -135,5 +117,5 @@ TellsPacketReport packets settings course outcome answer more =
 -- and of packets in flight
 abbrev pub TellsFlightReport : FlightText → List (Name × ℕ) → (first : ℕ) → List Setting → FlightCourse → Outcome → (answer more : List ℕ) → Type 0
 TellsFlightReport flying labels first settings course outcome answer more =
-    TellsFlight flying first settings course more → (report : IsFlown flying labels first settings course outcome answer)
+    TellsFlightFaults flying first settings course more → (report : IsFlown flying labels first settings course outcome answer)
     → TellsReported report.opening.base more report.final

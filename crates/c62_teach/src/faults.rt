@@ -7,7 +7,8 @@ ghost use Rattle.c62_flight.specs.Text.{IsIssuable};
 ghost use Rattle.c62_rows.specs.Rows.{text_of};
 ghost use Rattle.c62_command.specs.declared.command.Form.TheVariants.{Listed, Written};
 ghost use Rattle.c62_command.specs.CommandLine.{ask_of, flight_asked};
-ghost use Rattle.c62_teach.specs.Faulted.{TellsCode, TellsFaults, TellsFlight, TellsIf, TellsPackets, TellsProgram, TellsRows, TellsRun, TellsStanding, TellsStrict, TellsTaken};
+ghost use Rattle.c62_answer.specs.Run.{TellsFlightFaults, TellsIf};
+ghost use Rattle.c62_teach.specs.Faulted.{TellsCode, TellsFaults, TellsPackets, TellsProgram, TellsRows, TellsRun, TellsStanding, TellsStrict, TellsTaken};
 
 use c62_adopt::laws::texts_that_stand_lack_nothing;
 use c62_adopt::{AdoptFault, adopt, read_code};
@@ -146,7 +147,7 @@ fn standing_told(
 /// The accesses that fault in a run of packets in flight, a line each.
 fn flight_told(alloc: Global, begun: &Begun, start: &FlightStart) -> Result<Vec<u8>, AllocError>
     requires { IsIssuable (text_of begun.now.rows) }
-    ensures { IfOk result (λ more. TellsFlight (text_of begun.now.rows) begun.now.first start.now.settings.items start.now.course more.items) }
+    ensures { IfOk result (λ more. TellsFlightFaults (text_of begun.now.rows) begun.now.first start.now.settings.items start.now.course more.items) }
 {
     let mut state = opening(alloc, &start.settings)?;
     let base = state.base();

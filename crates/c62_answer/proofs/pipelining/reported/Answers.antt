@@ -9,4 +9,4 @@ returns c = λ packing trips apart text is.
     (loops_flown c.args.isa c.args.verbose packing trips apart flight.course flight.settings.items
     c.in_ok-told.told.items text
     c.in_ok-reply.reply.text.items looped.program looped.written c.args.begun.now c.in_ok-reply.reply.outcome is
-    c.in_ok-told.ensures c.requires (rw c.deref.ensures.value at c.in_ok-reply.ensures))
+    c.requires c.in_ok-told.ensures (rw c.deref.ensures.value at c.in_ok-reply.ensures))

@@ -6,4 +6,4 @@ returns-in-Err c = λ packing trips apart text is.
     let flight = c.args.flight.now in
     let looped = c.args.looped.now in
     unread_again c.args.isa c.args.verbose packing trips apart flight.course flight.settings.items text looped.program
-    looped.written c.in-Err.fault c.from.result is c.from.ensures (rw c.deref.ensures.value at c.in-Err.ensures)
+    looped.written c.in-Err.fault c.from.result is c.from.ensures c.in-Err.ensures

@@ -9,4 +9,4 @@ returns c = λ packing trips apart text is.
     text
     c.in_ok-reply.reply.text.items looped.program looped.written c.args.begun.now c.in_ok-reply.reply.outcome
     c.breach.result c.breach.ensures is
-    c.in_ok-told.ensures c.requires (rw c.deref.ensures.value at c.in_ok-reply.ensures)
+    c.requires c.in_ok-told.ensures (rw c.deref.ensures.value at c.in_ok-reply.ensures)

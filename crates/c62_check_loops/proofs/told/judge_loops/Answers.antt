@@ -23,9 +23,11 @@ returns c =
       c.blocks-blocks.ensures.same,
       c.in_ok-loops.ensures.promise,
     ) at c.in_ok-told.ensures in
+    let as_many : length loops ≡ length blocks
+    = rw c.blocks-blocks.ensures.same at c.in_ok-loops.ensures.told.counted in
     let stands : c.are_all_rows-all.result ≡ are_all_rows starts (length blocks) c.len.result
     = rw (c.deref-6.ensures.value, c.blocks-blocks.ensures.same) at c.are_all_rows-all.ensures in
     loops_judged (map trips_of promises.trips.items) promises.apart.items c.promise_of-promise.result loops starts
     blocks rows c.len.result told c.finished.result c.are_all_rows-all.result
-    is (rw c.deref.ensures.value at c.promise_of-promise.ensures) counted stands c.finished.ensures.verdicts
+    is as_many (rw c.deref.ensures.value at c.promise_of-promise.ensures) counted stands c.finished.ensures.verdicts
     c.finished.ensures.rows c.finished.ensures.same c.finished.ensures.plain

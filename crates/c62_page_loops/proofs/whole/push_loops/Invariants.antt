@@ -5,6 +5,6 @@ use Rattle.c62_page_loops.proofs.whole.push_loops.Given as goal
 
 abbrev pub invariant-loop-choice : goal.invariant-loop-choice
 invariant-loop-choice l =
-    (l.out.items ++ page (loops_from l.blocks l.written.given_up l.number (drop l.choice-index l.written.loops.items))
-    ≡ l.fn.out.items ++ page (loops_from l.blocks l.written.given_up 0 l.written.loops.items))
+    (l.out.items ++ page (loops_from l.blocks l.number (drop l.choice-index l.written.loops.items))
+    ≡ l.fn.out.items ++ page (loops_from l.blocks 0 l.written.loops.items))
     × (l.number ≡ l.choice-index)

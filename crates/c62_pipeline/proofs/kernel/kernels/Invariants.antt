@@ -5,6 +5,6 @@ use Rattle.c62_pipeline.proofs.kernel.kernels.Given as goal
 
 abbrev pub invariant-loop-choice : goal.invariant-loop-choice
 invariant-loop-choice l =
-    (string_bytes l.out ++ kernels_from l.blocks l.written.given_up l.number (drop l.choice-index l.written.loops.items)
+    (string_bytes l.out ++ kernels_from l.blocks l.number (drop l.choice-index l.written.loops.items)
     ≡ kernels l.blocks l.written)
     × (l.number ≡ l.choice-index)

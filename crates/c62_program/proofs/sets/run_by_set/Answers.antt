@@ -12,4 +12,4 @@ pub returns : goal.returns
 returns g c =
     let some : asked_set (map g.S.AsStr.text c.args.words.now) ≡ Some c.in-Ok-Some.isa = search rules in
     named c.in-Ok-Some.isa _ _ _ _ _ _ _ _ some c.in-Ok.ensures
-    (rw c.deref.ensures.value at c.run_with.ensures)
+    (rw c.deref.ensures.value at c.run_reading.ensures)

@@ -5,4 +5,4 @@ pub returns-then-asks_set : goal.returns-then-asks_set
 returns-then-asks_set g c = rw (sym c.asks_set.ensures ∙ c.if-asks_set.true) c.run_by_set.ensures
 
 pub returns : goal.returns
-returns g c = rw (sym c.asks_set.ensures ∙ c.if-asks_set.false) c.run_with.ensures
+returns g c = rw (sym c.asks_set.ensures ∙ c.if-asks_set.false) c.run_reading.ensures

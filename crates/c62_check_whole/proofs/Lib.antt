@@ -1,0 +1,13 @@
+mod Chains
+mod SerialLoops
+mod Texts
+mod LoopTexts
+mod BlockTexts
+mod Flights
+mod Parts
+mod Behind
+mod Walks
+mod Whole
+mod Lines
+mod LinedFlights
+mod Written

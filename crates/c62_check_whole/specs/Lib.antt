@@ -1,0 +1,4 @@
+pub mod Promised
+pub mod Whole
+pub mod Lined
+pub mod Written
