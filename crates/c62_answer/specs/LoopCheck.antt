@@ -24,7 +24,7 @@ pub record IsFlying (isa : InstructionSet) (text : List ℕ) (flying : Text) : T
   pub is_text : IsText isa (code_in (code_read isa text)) flying labels
 
 -- The input is a text and packets, and this is told of the text's loops, and whether all is the same. Where it is, each loop of the text
--- is done by the packets, from as many trips on as are promised of it, but for what the answer names, if it is so of any loop, and no block is
+-- is done by the packets, from as many trips on as are sure of it, but for what the answer names, if it is so of any loop, and no block is
 -- left that belongs to none.
 pub record IsLoopCheck (isa : InstructionSet) (trips : List (Name × ℕ)) (apart : List Reg) (input : List ℕ) (same : Bool) (answer : List ℕ) : Type 0 where
   pub text : List ℕ

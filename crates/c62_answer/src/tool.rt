@@ -114,7 +114,7 @@ fn run_telling<H: AllocGlobal + Threads + Wait + Sync, S: AsStr, R: Read, W: Wri
 /// by the fault that is told, and a 2 that the words are refused before anything is read. On a 0 nothing is told but how many
 /// cycles were added to a text that was drained. Of a check a 0 means that every block of the packets is the same as the text's,
 /// so that they run as the text does, and a 5 that some block isn't. Of a check of loops a 0 means that each loop is done by the
-/// packets, from as many trips on as are promised, and that nothing else is left of both. A 4 means that a stream failed: what was written is
+/// packets, from as many trips on as are sure, and that nothing else is left of both. A 4 means that a stream failed: what was written is
 /// nothing or a front of the answer.
 pub fn run_tool<H: AllocGlobal + Threads + Wait + Sync, S: AsStr, R: Read, W: Write, E: Write>(
     isa: InstructionSet,

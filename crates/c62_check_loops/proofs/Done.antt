@@ -33,6 +33,8 @@ use Rattle.c62_check_loops.specs.Fit.{are_fit, are_all_rows, block_behind, first
 use Rattle.c62_check_loops.specs.Lines.{label_in, insns_in, named_line, line_at, lines_from, loop_at, reading_lines}
 use Rattle.c62_check_loops.specs.Reading.{is_unread, readings_from}
 use Rattle.c62_check_loops.specs.Verdicts.{IsBlockTold, are_good, is_good, is_good_loop, is_plain}
+use Rattle.c62_check_loops.specs.Constant.{constant_at}
+use Rattle.c62_check_loops.proofs.Constants.{are_sure}
 use Rattle.c62_check_loops.specs.Laws.{DoesTheLoop, HasLine, IsDone, IsLoopDone, LoopsDoTheSame, naming_of}
 use Rattle.c62_check_loops.proofs.Loops.{there_at}
 
@@ -117,7 +119,7 @@ module _ (trips : List (Name × ℕ)) (promise : Promise) (loops : List (Option 
   loop_done : (label : Option Name) (verdict : LoopVerdict) → block.label ≡ label
       → HasLine answer (named_line number label block.insns verdict)
       → (plain ≡ true → is_plain (Loop verdict) ≡ true)
-      → is_good_loop trips label verdict ≡ true → is_unread blocks number verdict ≡ true
+      → is_good_loop trips label (constant_at blocks number) verdict ≡ true → is_unread blocks number verdict ≡ true
       → is_fit blocks loops starts number (Loop verdict) ≡ true
       → IsTold (promises promise) blocks number packets (Some verdict)
       → IsLoopDone trips promise starts blocks packets (naming_of plain answer) number block
@@ -134,7 +136,7 @@ module _ (trips : List (Name × ℕ)) (promise : Promise) (loops : List (Option 
         cycles = cycles;
         first = first;
         last = last;
-        granted = good;
+        sure = are_sure trips blocks number region label (constant_at blocks number) least found refl good;
         does = done_same promise blocks region packets answer label block.insns least cycles first last plain
             (same_is_serial (promises promise) region packets least cycles first last same);
         alone = parts.0;
@@ -154,7 +156,7 @@ module _ (trips : List (Name × ℕ)) (promise : Promise) (loops : List (Option 
         cycles = cycles;
         first = first;
         last = last;
-        granted = good;
+        sure = are_sure trips blocks number region label (constant_at blocks number) least found refl good;
         does = done_but promise blocks region packets answer label block.insns least cycles first last plain but none has
             (ap (λ (n : ℕ). readings_from blocks (block_behind blocks n) but) found.numbered
             ∙ nothing_in (readings_from blocks (block_behind blocks number) but) unread)
@@ -188,13 +190,15 @@ module _ (trips : List (Name × ℕ)) (promise : Promise) (loops : List (Option 
   block_done Within there has bare good fit (none, with_loop) =
       inr (none, inl (record { with_loop = with_loop; entered = fit }))
   block_done (Loop verdict) there has bare good fit (one, is) =
-      let parts = both (is_good_loop trips (label_in (slice_get blocks number)) verdict) (is_unread blocks number verdict) good
+      let parts = both (is_good_loop trips (label_in (slice_get blocks number)) (constant_at blocks number) verdict)
+      (is_unread blocks number verdict) good
       in inl (
         one,
         loop_done block.label verdict refl
             (subst (λ (b : Option Serial). HasLine answer (named_line number (label_in b) (insns_in b) verdict)) there
             (line_front answer (loop_at blocks number verdict) (reading_lines blocks number verdict) has))
-            bare (subst (λ (b : Option Serial). is_good_loop trips (label_in b) verdict ≡ true) there parts.0) parts.1 fit is,
+            bare (subst (λ (b : Option Serial). is_good_loop trips (label_in b) (constant_at blocks number) verdict ≡ true)
+            there parts.0) parts.1 fit is,
       )
   block_done (Rest verdict) there has bare good fit (none, (other, at, is)) =
       let same : other ≡ block = same_Some other block (sym at ∙ there) in

@@ -14,6 +14,11 @@ is_granted_by label least trips = bytes_eq trips.0 label && nat_le least trips.1
 abbrev pub is_granted : List (Text × ℕ) → (label : Text) → (least : ℕ) → Bool
 is_granted all label least = list_any (is_granted_by label least) all
 
+-- As many trips of the loop of this label are sure: where the text sets its counter to a constant, that counts, and else what is promised.
+abbrev pub is_enough : List (Text × ℕ) → (label : Text) → (constant : Option ℕ) → (least : ℕ) → Bool
+is_enough all label None least = is_granted all label least
+is_enough all label (Some trips) least = nat_le least trips
+
 abbrev pub has_label : Option Serial → Text → Bool
 has_label None label = false
 has_label (Some block) label = label_is label block.label

@@ -1,12 +1,13 @@
 -- What follows where all of a text and packets is told to be the same (docs/CHECK.md, "All loops of a text").
-use Rattle.std.specs.Prelude.{◌≡◌, ℕ, Bool, true, false, List, [], ◌++◌, length, Option, Some, None, ◌⊎◌, slice_get}
+use Rattle.std.specs.Prelude.{◌≡◌, ℕ, ◌^◌, ◌<◌, ◌≤◌, Bool, true, false, List, [], ◌++◌, length, Option, Some, None, ◌⊎◌, slice_get}
 use Rattle.clap.specs.Words.{Text as Name}
 use Rattle.c62_op.specs.declared.register.Reg.{Reg}
 use Rattle.c62_pair.specs.declared.reg_set.RegSet.{RegSet}
 use Rattle.c62_read.specs.declared.block.SerialInsn.{SerialInsn}
 use Rattle.c62_read.specs.Block.{Serial}
+use Rattle.c62_serial.specs.State.{Machine, IsSound}
 use Rattle.c62_flight.specs.Text.{Text}
-use Rattle.c62_loop.specs.Loop.{Region}
+use Rattle.c62_loop.specs.Loop.{Region, trips_of}
 use Rattle.c62_loop_match.specs.declared.promise.Promise.{Promise}
 use Rattle.c62_loop_match.specs.Promise.{promises}
 use Rattle.c62_check_loop.specs.declared.verdict.LoopVerdict.{LoopVerdict}
@@ -18,6 +19,7 @@ use Rattle.c62_check_rest.specs.Starts.{Starts, start_at}
 use Rattle.c62_check_rest.specs.Laws.{DoesTheBlock}
 use Rattle.c62_check_loops.specs.Covered.{is_told, is_told_with_loop}
 use Rattle.c62_check_loops.specs.Fit.{first_block, block_behind, is_alone, is_within}
+use Rattle.c62_check_loops.specs.Constant.{constant_at}
 use Rattle.c62_check_loops.specs.Granted.{is_granted}
 use Rattle.c62_check_loops.specs.Promised.{IsPromiseOf}
 use Rattle.c62_check_loops.specs.Reading.{readings_from}
@@ -37,7 +39,18 @@ DoesTheLoop promise blocks region packets (Some answer) label insns least cycles
     × (readings_from blocks (block_behind blocks region.number) but ≡ [])
     × DoesTheSameBut (promises promise) region packets least cycles first last but)
 
--- The block is a loop. Its label is promised as many trips as the packets need, and from as many on these do what it does, with the
+-- From every sound machine the loop makes as many trips as this constant, a word, and it is no less than the packets need.
+pub record MakesTrips (region : Region) (least constant : ℕ) : Type 0 where
+  pub enough : least ≤ constant
+  pub word : constant < 2 ^ 32
+  pub makes : (opening : Machine) → IsSound opening → trips_of region opening ≡ constant
+
+-- As many trips are sure as the packets need: the text sets the counter to a constant, and so they are made, or else the label is promised as many.
+abbrev pub AreSure : List (Name × ℕ) → Region → Name → (constant : Option ℕ) → (least : ℕ) → Type 0
+AreSure trips region label None least = is_granted trips label least ≡ true
+AreSure trips region label (Some constant) least = MakesTrips region least constant
+
+-- The block is a loop. As many trips are sure as the packets need, and from as many on these do what it does, with the
 -- straight instructions around it, or what it does but for what the answer names, if one is given: from the row at which the first block of these is
 -- entered to that at which the one behind them is.
 pub record IsLoopDone (trips : List (Name × ℕ)) (promise : Promise) (starts : Starts) (blocks : List Serial) (packets : Text) (naming : Option (List ℕ)) (number : ℕ) (block : Serial) : Type 0 where
@@ -49,7 +62,7 @@ pub record IsLoopDone (trips : List (Name × ℕ)) (promise : Promise) (starts :
   pub cycles : ℕ
   pub first : ℕ
   pub last : ℕ
-  pub granted : is_granted trips label least ≡ true
+  pub sure : AreSure trips region label (constant_at blocks number) least
   pub does : DoesTheLoop promise blocks region packets naming label block.insns least cycles first last
   pub alone : is_alone blocks starts number ≡ true
   pub begins : start_at starts (first_block blocks number) ≡ Some first

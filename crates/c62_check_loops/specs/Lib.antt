@@ -1,4 +1,5 @@
 pub mod Covered
+pub mod Constant
 pub mod Granted
 pub mod Promised
 pub mod Lines

@@ -42,7 +42,7 @@ pub record AreLoopsJudged (trips : List (Name × ℕ)) (apart : List Reg) (block
   pub bare : judged.plain ≡ list_all is_plain judged.verdicts.items
 
 -- These lines are told of the blocks of a text and packets, where so many trips are promised of the loops of these labels, and that
--- accesses from two of these registers are apart. All is the same where each block is, as a loop from no more trips on than are promised, or
+-- accesses from two of these registers are apart. All is the same where each block is, as a loop from no more trips on than are sure, or
 -- is told with a loop, and their rows are all rows, one behind the other. It is plainly so where no loop is the same but for registers.
 pub record AreLoopsTold (trips : List (Name × ℕ)) (apart : List Reg) (blocks : List Serial) (packets : Text) (answer : List ℕ) (same plain : Bool) : Type 0 where
   pub promise : Promise

@@ -14,7 +14,8 @@ use Rattle.c62_check_loops.specs.declared.verdict.Loops.{Loops}
 use Rattle.c62_check_loops.specs.declared.verdict.BlockVerdict.{BlockVerdict}
 use Rattle.c62_check_loops.specs.declared.verdict.BlockVerdict.TheVariants.{Loop, Within, Rest}
 use Rattle.c62_check_loops.specs.Covered.{is_told, is_told_with_loop}
-use Rattle.c62_check_loops.specs.Granted.{is_granted}
+use Rattle.c62_check_loops.specs.Constant.{constant_at}
+use Rattle.c62_check_loops.specs.Granted.{is_enough}
 use Rattle.c62_check_loops.specs.Lines.{label_in}
 use Rattle.c62_check_loops.specs.Reading.{is_unread}
 
@@ -63,16 +64,17 @@ is_plain (Loop verdict) = true
 is_plain Within = true
 is_plain (Rest verdict) = true
 
--- a loop of this label is the same with the trips that are promised
-abbrev pub is_good_loop : List (Name × ℕ) → Option Name → LoopVerdict → Bool
-is_good_loop all (Some label) (Same trips cycles first last) = is_granted all label trips
-is_good_loop all (Some label) (SameBut trips cycles first last but) = is_granted all label trips
-is_good_loop all label verdict = false
+-- a loop of this label, whose counter the text sets to this constant or to none, is the same with the trips that are sure
+abbrev pub is_good_loop : List (Name × ℕ) → Option Name → Option ℕ → LoopVerdict → Bool
+is_good_loop all (Some label) constant (Same trips cycles first last) = is_enough all label constant trips
+is_good_loop all (Some label) constant (SameBut trips cycles first last but) = is_enough all label constant trips
+is_good_loop all label constant verdict = false
 
 -- The block of this number is the same, as a loop with those trips of which nothing in the text reads what it leaves otherwise, or is told with a
 -- loop.
 abbrev pub is_good : List (Name × ℕ) → List Serial → ℕ → BlockVerdict → Bool
-is_good all blocks number (Loop verdict) = is_good_loop all (label_in (slice_get blocks number)) verdict && is_unread blocks number verdict
+is_good all blocks number (Loop verdict) =
+    is_good_loop all (label_in (slice_get blocks number)) (constant_at blocks number) verdict && is_unread blocks number verdict
 is_good all blocks number Within = true
 is_good all blocks number (Rest verdict) = is_same_rest verdict
 

@@ -5,7 +5,7 @@ ghost use Rattle.std.specs.List.{list_any, position};
 ghost use Rattle.std.specs.Option.{option_copied};
 ghost use Rattle.c62_read.specs.declared.limits.TheConstants.{MOST_BLOCKS};
 ghost use Rattle.c62_command.specs.Promises.{trips_of};
-ghost use Rattle.c62_check_loops.specs.Granted.{first_loopless, has_label, is_granted, is_granted_by, is_loop_named, names_loop};
+ghost use Rattle.c62_check_loops.specs.Granted.{first_loopless, has_label, is_enough, is_granted, is_granted_by, is_loop_named, names_loop};
 
 use crate::covered::is_loop;
 use c62_command::Trips;
@@ -26,10 +26,21 @@ fn any_grants(trips: &[Trips], label: &[u8], least: u32) -> bool
 }
 
 /// Whether one of these promises at least so many trips of the loop of a label (docs/CHECK.md, "The command").
-pub fn is_granted(trips: &[Trips], label: &[u8], least: u32) -> bool
+fn is_granted(trips: &[Trips], label: &[u8], least: u32) -> bool
     ensures { result ≡ is_granted (map trips_of trips.now) label.now least }
 {
     any_grants(trips, label, least)
+}
+
+/// Whether so many trips of the loop of a label are sure: where the text sets its counter to a constant, that counts, and else what is
+/// promised (docs/CHECK.md, "The command").
+pub fn is_enough(trips: &[Trips], label: &[u8], constant: Option<u32>, least: u32) -> bool
+    ensures { result ≡ is_enough (map trips_of trips.now) label.now constant least }
+{
+    match constant {
+        Some(made) => least <= made,
+        None => is_granted(trips, label, least),
+    }
 }
 
 /// Whether there is a block, and has this label.

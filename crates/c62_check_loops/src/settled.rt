@@ -15,7 +15,7 @@ use c62_read::Block;
 use c62_rows::RowsText;
 use std::alloc::{AllocError, Global};
 
-/// What is told of the block of this number as a loop, where it is the same with the trips that are promised.
+/// What is told of the block of this number as a loop, where it is the same with the trips that are sure.
 #[tactic(auto, using(crate::proofs::Taken::none_taken, crate::proofs::Taken::loop_taken))]
 fn good_at(trips: &[Trips], blocks: &[Block], loops: &Loops, number: u8) -> Option<LoopVerdict>
     requires { number < length blocks.now }
@@ -31,7 +31,7 @@ fn good_at(trips: &[Trips], blocks: &[Block], loops: &Loops, number: u8) -> Opti
     }
 }
 
-/// What is told of the blocks that are loops, and the same with the trips that are promised.
+/// What is told of the blocks that are loops, and the same with the trips that are sure.
 #[tactic(auto, using(crate::proofs::Taken::none_yet, crate::proofs::Taken::taken_next))]
 fn good_of(
     alloc: Global,
@@ -96,7 +96,7 @@ fn are_settled(
     Ok(true)
 }
 
-/// The same, but for each loop that isn't the same with the trips that are promised, where the rows of all of these do what their blocks
+/// The same, but for each loop that isn't the same with the trips that are sure, where the rows of all of these do what their blocks
 /// do.
 fn settled(
     alloc: Global,
@@ -122,7 +122,7 @@ fn settled(
     }
 }
 
-/// What is told of blocks as loops: where the rows of each loop that isn't the same with the trips that are promised do what its block
+/// What is told of blocks as loops: where the rows of each loop that isn't the same with the trips that are sure do what its block
 /// does, that is held against them as any other block is, and not told as a loop.
 ///
 /// # Errors

@@ -25,8 +25,8 @@ use std::alloc::{AllocError, Global};
 pub struct LoopsChecked {
     /// The lines that tell it.
     pub text: Vec<u8>,
-    /// Whether the packets do what the text does, as far as its loops are entered with the trips that are promised, and the rest of
-    /// what is promised holds, but for registers and faulted lines that a loop's line names. No line of the text may then read such a register
+    /// Whether the packets do what the text does, as far as its loops are entered with the trips that are promised, if no constant tells them, and
+    /// the rest of what is promised holds, but for registers and faulted lines that a loop's line names. No line of the text may then read such a register
     /// before another sets it.
     pub same: bool,
     /// Whether no loop is the same but for such.
@@ -54,7 +54,7 @@ struct Told {
     same: bool,
     /// Whether none of them is the same but for registers.
     plain: bool,
-    /// Whether they are with the trips that are promised.
+    /// Whether they are with the trips that are sure.
     good: bool,
     /// Whether the rows of each go from its start to that of what stands behind it.
     fit: bool,
@@ -152,7 +152,7 @@ fn finished(told: Told, all: bool) -> LoopsJudged
 }
 
 /// What is found of the blocks of a program and packets that pipeline its loops, where so much is promised, and whether the packets do what
-/// the program does. All is the same only where each block is, as a loop from no more trips on than are promised, and their rows are all
+/// the program does. All is the same only where each block is, as a loop from no more trips on than are sure, and their rows are all
 /// rows, one behind the other. A loop may be the same but for registers; it is told whether one is.
 ///
 /// # Errors

@@ -5,13 +5,15 @@ ghost use Rattle.std.specs.Option.{option_copied};
 ghost use Rattle.c62_rows.specs.Rows.{text_of};
 ghost use Rattle.c62_read.specs.declared.limits.TheConstants.{MOST_BLOCKS};
 ghost use Rattle.c62_command.specs.Promises.{trips_of};
+ghost use Rattle.c62_check_loops.specs.Constant.{constant_at};
 ghost use Rattle.c62_check_loops.specs.Lines.{label_in};
 ghost use Rattle.c62_check_loops.specs.Covered.{is_told, loop_in};
 ghost use Rattle.c62_check_loops.specs.Reading.{is_unread};
 ghost use Rattle.c62_check_loops.specs.Verdicts.{AreLoopVerdicts, AreLoopsOf, IsBlockTold, is_good, is_good_loop, is_plain, is_same};
 
+use crate::constant::constant_at;
 use crate::covered::is_told_with_loop;
-use crate::granted::is_granted;
+use crate::granted::is_enough;
 use crate::reading::readings_of;
 use c62_check_loop::{LoopVerdict, check_loop};
 use c62_check_rest::{RestVerdict, check_rest};
@@ -57,36 +59,44 @@ pub(crate) fn is_plain(verdict: &BlockVerdict) -> bool
     }
 }
 
-/// Whether a loop of this label is the same with the trips that are promised.
-fn is_good_loop(trips: &[Trips], label: Option<&Label>, verdict: LoopVerdict) -> bool
-    ensures { result ≡ is_good_loop (map trips_of trips.now) (option_copied label.entry) verdict }
+/// Whether a loop of this label, whose counter the text sets to this constant, is the same with the trips that are sure.
+fn is_good_loop(
+    trips: &[Trips],
+    label: Option<&Label>,
+    constant: Option<u32>,
+    verdict: LoopVerdict,
+) -> bool
+    ensures { result ≡ is_good_loop (map trips_of trips.now) (option_copied label.entry) constant verdict }
 {
     match (label, verdict) {
-        (Some(label), LoopVerdict::Same { trips: least, .. }) => is_granted(
+        (Some(label), LoopVerdict::Same { trips: least, .. }) => is_enough(
             trips,
             label.as_bytes(),
+            constant,
             u32::from(least),
         ),
-        (Some(label), LoopVerdict::SameBut { trips: least, .. }) => is_granted(
+        (Some(label), LoopVerdict::SameBut { trips: least, .. }) => is_enough(
             trips,
             label.as_bytes(),
+            constant,
             u32::from(least),
         ),
         _ => false,
     }
 }
 
-/// Whether the loop that the block of this number is, is the same with the trips that are promised.
+/// Whether the loop that the block of this number is, is the same with the trips that are sure.
 pub(crate) fn is_good_at(
     trips: &[Trips],
     blocks: &[Block],
     number: u8,
     verdict: LoopVerdict,
 ) -> bool
-    ensures { result ≡ is_good_loop (map trips_of trips.now) (label_in (slice_get blocks.now number)) verdict }
+    ensures { result ≡ is_good_loop (map trips_of trips.now) (label_in (slice_get blocks.now number)) (constant_at blocks.now number) verdict }
 {
+    let constant = constant_at(blocks, number);
     match blocks.get(usize::from(number)) {
-        Some(block) => is_good_loop(trips, block.label(), verdict),
+        Some(block) => is_good_loop(trips, block.label(), constant, verdict),
         None => false,
     }
 }
@@ -106,7 +116,7 @@ fn is_unread(
     Ok(readings.is_empty())
 }
 
-/// Whether the block of this number is the same, as a loop with the trips that are promised of which no line of the text reads what it leaves
+/// Whether the block of this number is the same, as a loop with the trips that are sure of which no line of the text reads what it leaves
 /// otherwise, or is told with a loop.
 pub(crate) fn is_good(
     alloc: Global,

@@ -6,6 +6,7 @@ mod BlockTexts
 mod Flights
 mod Parts
 mod Behind
+mod Trips
 mod Walks
 mod Whole
 mod Lines

@@ -28,7 +28,8 @@ use Rattle.c62_check_loops.specs.Covered.{loop_in, is_told, is_straight, is_empt
 use Rattle.c62_check_loops.specs.Covered.{follows_loop, is_told_with_loop}
 use Rattle.c62_check_loops.specs.Fit.{are_fit, are_all_rows, block_behind, first_block, has_above}
 use Rattle.c62_check_loops.specs.Fit.{is_alone, is_fit, is_within, is_passed, passes, stands_there}
-use Rattle.c62_check_loops.specs.Granted.{is_granted}
+use Rattle.c62_check_loops.specs.Constant.{constant_at}
+use Rattle.c62_check_loops.specs.Granted.{is_enough}
 use Rattle.c62_check_loops.specs.Lines.{label_in}
 use Rattle.c62_check_loops.specs.Reading.{is_unread}
 use Rattle.c62_check_loops.specs.Told.{AreLoopsTold}
@@ -68,7 +69,7 @@ module _ (trips : List (Name × ℕ)) (apart : List Reg) (blocks : List Serial) 
     pub cycles : ℕ
     pub first : ℕ
     pub last : ℕ
-    pub granted : is_granted trips label least ≡ true
+    pub sure : is_enough trips label (constant_at blocks number) least ≡ true
     pub same : IsSame (promises is.promise) region packets least cycles first last
     pub one : is_told is.loops number ≡ true
     pub alone : is_alone blocks is.starts number ≡ true
@@ -163,7 +164,7 @@ module _ (trips : List (Name × ℕ)) (apart : List Reg) (blocks : List Serial) 
   module _ (number : ℕ) (block : Serial) (there : slice_get blocks number ≡ Some block)
       (one : is_told is.loops number ≡ true) where
     by_loop : (label : Option Name) (verdict : LoopVerdict) → block.label ≡ label
-        → is_good_loop trips label verdict ≡ true → is_plain (Loop verdict) ≡ true
+        → is_good_loop trips label (constant_at blocks number) verdict ≡ true → is_plain (Loop verdict) ≡ true
         → is_fit blocks is.loops is.starts number (Loop verdict) ≡ true
         → IsTold (promises is.promise) blocks number packets (Some verdict)
         → LoopOf number
@@ -183,7 +184,7 @@ module _ (trips : List (Name × ℕ)) (apart : List Reg) (blocks : List Serial) 
           cycles = cycles;
           first = first;
           last = last;
-          granted = good;
+          sure = good;
           same = same;
           one = one;
           alone = parts.0;
@@ -203,10 +204,12 @@ module _ (trips : List (Name × ℕ)) (apart : List Reg) (blocks : List Serial) 
 
     by_verdict : (verdict : BlockVerdict) → IsGood number verdict → LoopOf number
     by_verdict (Loop verdict) g =
-        let parts = and_parts (is_good_loop trips (label_in (slice_get blocks number)) verdict)
+        let parts = and_parts
+        (is_good_loop trips (label_in (slice_get blocks number)) (constant_at blocks number) verdict)
         (is_unread blocks number verdict) g.good in
         by_loop block.label verdict refl
-        (subst (λ (b : Option Serial). is_good_loop trips (label_in b) verdict ≡ true) there parts.0) g.plain
+        (subst (λ (b : Option Serial). is_good_loop trips (label_in b) (constant_at blocks number) verdict ≡ true)
+        there parts.0) g.plain
         g.fit g.told.1
     by_verdict Within g = absurd (false≢true (sym g.told.0 ∙ one))
     by_verdict (Rest verdict) g = absurd (false≢true (sym g.told.0 ∙ one))

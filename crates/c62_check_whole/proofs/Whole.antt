@@ -41,7 +41,8 @@ use Rattle.c62_check_loops.specs.Covered.{is_told, is_bare, has_below, follows_l
 use Rattle.c62_check_loops.specs.Fit.{first_block, block_behind}
 use Rattle.c62_check_loops.specs.Told.{AreLoopsTold}
 use Rattle.c62_check_loops.proofs.Loops.{there_at}
-use Rattle.c62_check_whole.specs.Promised.{last_in, IsKept, KeepsPromises}
+use Rattle.c62_check_loops.specs.Constant.{constant_at}
+use Rattle.c62_check_whole.specs.Promised.{last_in, AreMade, IsKept, KeepsPromises}
 use Rattle.c62_check_whole.specs.Whole.{StopsAs, FliesTo, FliesAsProgram, CheckedLoopsAreSerial}
 use Rattle.c62_check_whole.proofs.Chains.{Goes, goes_both, goes_one, goes_rest, is_named, exit_named}
 use Rattle.c62_check_whole.proofs.SerialLoops.{block_at, goes_part, last_behind}
@@ -50,6 +51,7 @@ use Rattle.c62_check_whole.proofs.BlockTexts.{goes_on}
 use Rattle.c62_check_whole.proofs.Flights.{flies_behind, comes_behind}
 use Rattle.c62_check_whole.proofs.Parts.{LoopOf, LoopPart, Part, Enters, enters_first, leaves_last}
 use Rattle.c62_check_whole.proofs.Behind.{behind_loop, behind_block, behind_pass, first_below, behind_within}
+use Rattle.c62_check_whole.proofs.Trips.{are_made}
 use Rattle.c62_check_whole.proofs.Walks.{Agrees, Walk, walk}
 
 -- ---- labels
@@ -195,20 +197,23 @@ module _ (trips : List (Name × ℕ)) (apart : List Reg) (blocks : List Serial) 
         = subst (λ (n : ℕ). start_at is.starts n ≡ Some of.first) begin of.begins in
         let first : row ≡ of.first = same_Some row of.first (sym enters.at ∙ starts) in
         let below = first_below trips apart blocks packets answer is part.number in
-        let keeps : IsKept apart of.region of.least machine
-        = kept.each part.number of.block of.label of.region of.least machine of.there of.labelled of.found of.granted
+        let keeps : IsKept apart (constant_at blocks part.number) of.region of.least machine
+        = kept.each part.number of.block of.label of.region of.least machine of.there of.labelled of.found of.sure
         (record {
           numbers = front;
           stands = subst (λ (p : Position). Goes blocks opening (position_at (length blocks) 0) front machine p)
               (at_block (length blocks) k within ∙ ap At (sym begin)) from;
           elsewhere = λ e. (let l = before part.number e of.one in absurd (omega (arith, l, begin, below)));
         }) in
+        let made : AreMade of.region of.least machine
+        = are_made trips blocks part.number of.region of.label (constant_at blocks part.number) of.least machine of.found
+        refl of.sure sound keeps.trips in
         let count : ℕ = trips_of of.region machine in
-        let enough = keeps.enough in
+        let enough = made.enough in
         let least = of.same.trips_are in
         let some : suc (count - 1) ≡ count = omega (arith, enough, least) in
         let runs = goes_part blocks whole part.number of.region of.found of.same.decided.counts (count - 1) machine
-        sound (sym some) (subst (λ n. n < 2 ^ 32) (sym some) keeps.word) in
+        sound (sym some) (subst (λ n. n < 2 ^ 32) (sym some) made.word) in
         let left : Machine = (serial (serial_path of.region (suc (count - 1))) machine).machine in
         let mine : Goes blocks machine (At k) runs.0.path left
         (position_at (length blocks) (block_behind blocks part.number))
@@ -223,7 +228,7 @@ module _ (trips : List (Name × ℕ)) (apart : List Reg) (blocks : List Serial) 
         (subst (λ n. SameRows of.same.loop.text text n (last_row of.same.loop)) of.same.first_is
         (subst (λ n. SameRows of.same.loop.text text of.first n) of.same.last_is agrees))
         machine (suc (count - 1)) sound (omega (arith, enough, least, some)) (sym some)
-        (subst (λ n. n < 2 ^ 32) (sym some) keeps.word)
+        (subst (λ n. n < 2 ^ 32) (sym some) made.word)
         (subst (λ n. AreApart (promises is.promise) of.region n machine) (sym some)
         (keeps.stay_apart is.promise is.promised)) in
         let there : ComesTo text row machine of.last left

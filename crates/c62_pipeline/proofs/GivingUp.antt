@@ -14,12 +14,12 @@ use Rattle.c62_pipeline.specs.declared.written.Pipelining.{Pipelining}
 use Rattle.c62_pipeline.specs.Checked.{IsWrittenOf}
 use Rattle.c62_pipeline.specs.Chosen.{IsChosen, IsCountedAs, given_up, given_up_where}
 
-counted_where : (trips : List (Name × ℕ)) (apart : List Reg) (label : Option Name) (region : Region) (made : Made)
-    (choice : Choice) → choice.made ≡ Some made → IsCountedAs trips apart label region choice
-    → IsCountedAs trips apart label region (given_up_where (Some made) choice)
-counted_where trips apart label region made choice same (number, inl is) =
+counted_where : (trips : List (Name × ℕ)) (apart : List Reg) (label : Option Name) (constant : Option ℕ) (region : Region)
+    (made : Made) (choice : Choice) → choice.made ≡ Some made → IsCountedAs trips apart label constant region choice
+    → IsCountedAs trips apart label constant region (given_up_where (Some made) choice)
+counted_where trips apart label constant region made choice same (number, inl is) =
     absurd (none-some made (sym is.none ∙ same))
-counted_where trips apart label region made choice same (number, inr (promise, of, is)) =
+counted_where trips apart label constant region made choice same (number, inr (promise, of, is)) =
     (number, inr (promise, of, (number, tt, tt)))
 
 chosen_where : (trips : List (Name × ℕ)) (apart : List Reg) (blocks : List Serial) (made : Option Made) (choice : Choice)
@@ -34,7 +34,7 @@ chosen_where trips apart blocks (Some made) choice same (inr (inr (inr is))) =
       at = is.at;
       counter = is.counter;
       counts = is.counts;
-      found = counted_where trips apart is.block.label _ made choice same is.found;
+      found = counted_where trips apart is.block.label _ _ made choice same is.found;
     })))
 
 pub given_up_chosen : (trips : List (Name × ℕ)) (apart : List Reg) (blocks : List Serial) (choice : Choice)

@@ -16,7 +16,8 @@ use Rattle.c62_modulo.specs.declared.made.Shortness.{Shortness}
 use Rattle.c62_modulo.specs.Made.{IsMade, IsShown}
 use Rattle.c62_check_loop.specs.Region.{counter_of, last_of}
 use Rattle.c62_check_loops.specs.Promised.{IsPromiseOf}
-use Rattle.c62_check_loops.specs.Granted.{is_granted}
+use Rattle.c62_check_loops.specs.Constant.{constant_at}
+use Rattle.c62_check_loops.specs.Granted.{is_enough}
 use Rattle.c62_pipeline.specs.declared.chosen.Kept.{Kept}
 use Rattle.c62_pipeline.specs.declared.chosen.Kept.TheVariants.{Pipelined, Several, NoCounter, Used, NoTrips, MayMeet, TooFew, NotShorter, NotChecked}
 use Rattle.c62_pipeline.specs.declared.chosen.Choice.{Choice}
@@ -134,17 +135,17 @@ pub record IsUsed (blocks : List Serial) (choice : Choice) : Type 0 where
   pub uses : UsesCounter counter choice.number block.insns line
   pub told : choice.kept ≡ Used line counter
 
--- so has a loop of whose label not one trip is promised
-pub record IsUnpromised (trips : List (Name × ℕ)) (label : Option Name) (choice : Choice) : Type 0 where
+-- so has a loop of whose label not one trip is promised, where the text sets its counter to no constant, and one that this makes 0
+pub record IsUnpromised (trips : List (Name × ℕ)) (label : Option Name) (constant : Option ℕ) (choice : Choice) : Type 0 where
   pub none : choice.made ≡ None
   pub told : choice.kept ≡ NoTrips
   pub unlimited : choice.limit ≡ None
-  pub why : IfSome label (λ label. is_granted trips label 1 ≡ false)
+  pub why : IfSome label (λ label. is_enough trips label constant 1 ≡ false)
 
--- what is found for a loop under a counter, of this label
-abbrev pub IsCountedAs : List (Name × ℕ) → List Reg → Option Name → Region → Choice → Type 0
-IsCountedAs trips apart label region choice =
-    (choice.number ≡ region.number) × (IsUnpromised trips label choice ⊎ IsFoundOf apart region choice)
+-- what is found for a loop under a counter, of this label, whose counter the text sets to this constant or to none
+abbrev pub IsCountedAs : List (Name × ℕ) → List Reg → Option Name → Option ℕ → Region → Choice → Type 0
+IsCountedAs trips apart label constant region choice =
+    (choice.number ≡ region.number) × (IsUnpromised trips label constant choice ⊎ IsFoundOf apart region choice)
 
 -- so it is of such a block
 pub record IsCounted (trips : List (Name × ℕ)) (apart : List Reg) (blocks : List Serial) (choice : Choice) : Type 0 where
@@ -152,7 +153,7 @@ pub record IsCounted (trips : List (Name × ℕ)) (apart : List Reg) (blocks : L
   pub at : slice_get blocks choice.number ≡ Some block
   pub counter : Reg
   pub counts : counter_of blocks choice.number ≡ Some counter
-  pub found : IsCountedAs trips apart block.label (loop_alone choice.number block counter) choice
+  pub found : IsCountedAs trips apart block.label (constant_at blocks choice.number) (loop_alone choice.number block counter) choice
 
 -- what is found for a block of these that is a loop
 abbrev pub IsChosen : List (Name × ℕ) → List Reg → List Serial → Choice → Type 0

@@ -7,6 +7,7 @@ ghost use Rattle.c62_loop_match.specs.Parts.{region_of as region_read};
 ghost use Rattle.c62_loop_match.specs.Promise.{promises};
 ghost use Rattle.c62_modulo.specs.Made.{IsMade};
 ghost use Rattle.c62_check_loop.specs.Region.{last_of};
+ghost use Rattle.c62_check_loops.specs.Constant.{constant_at};
 ghost use Rattle.c62_pipeline.specs.Chosen.{IsChosen, IsCountedAs, IsFound, IsFromTrips, IsReason, UsesCounter, given_up, loop_alone, target_of};
 ghost use Rattle.c62_pipeline.specs.Limit.{IsLimitOf};
 ghost use Rattle.c62_command.specs.Promises.{trips_of};
@@ -14,7 +15,7 @@ ghost use Rattle.c62_command.specs.Promises.{trips_of};
 use crate::limit::{Limit, limit_of};
 use crate::meeting::{Meeting, all_apart, meeting_in};
 use c62_check_loop::counter_of;
-use c62_check_loops::{is_granted, promise_of};
+use c62_check_loops::{constant_at, is_enough, promise_of};
 use c62_command::{Promises, Trips};
 use c62_insn::{Operands, Reg};
 use c62_line::Label;
@@ -45,13 +46,13 @@ pub enum Kept {
     NoCounter,
     /// or the instruction of this line does more with this counter than to lower or test it,
     Used(u32, Reg),
-    /// or none of them are promised,
+    /// or none of them are sure,
     NoTrips,
     /// or those that take fewer cycles a trip need the accesses of these two lines apart, which isn't promised,
     MayMeet(u32, u32),
-    /// or those need so many trips, and fewer are promised,
+    /// or those need so many trips, and fewer are sure,
     TooFew(u16),
-    /// or none are found that take fewer cycles a trip within the trips that are promised,
+    /// or none are found that take fewer cycles a trip within the trips that are sure,
     NotShorter,
     /// or those found aren't told to do the same.
     NotChecked,
@@ -134,6 +135,14 @@ fn most_trips(trips: &[Trips], label: &Label) -> u32 {
         }
     }
     most
+}
+
+/// The most trips that are sure of the loop of a label: as many as the text sets its counter to, and else as are promised.
+fn trips_sure(trips: &[Trips], label: &Label, constant: Option<u32>) -> u32 {
+    match constant {
+        Some(made) => made,
+        None => most_trips(trips, label),
+    }
 }
 
 /// The number of the block to which the last of these branches.
@@ -231,7 +240,7 @@ fn unfound(alloc: Global, region: &Region, terms: Terms) -> Result<Choice, Alloc
     })
 }
 
-/// What is found for a loop of which so many trips are promised, and whose block takes so many cycles.
+/// What is found for a loop of which so many trips are sure, and whose block takes so many cycles.
 fn found(alloc: Global, region: &Region, terms: Terms) -> Result<Choice, AllocError>
     ensures { IfOk result (IsFound terms.promise (region_read region.now)) }
 {
@@ -241,23 +250,24 @@ fn found(alloc: Global, region: &Region, terms: Terms) -> Result<Choice, AllocEr
     }
 }
 
-/// What is found for a loop under a counter, whose block's own packets take so many cycles.
+/// What is found for a loop under a counter, which the text sets to this constant or to none, and whose block's own packets take so many cycles.
 fn counted(
     alloc: Global,
     label: &Label,
+    constant: Option<u32>,
     region: &Region,
     longest: u16,
     promises: &Promises,
 ) -> Result<Choice, AllocError>
-    ensures { IfOk result (IsCountedAs (map trips_of promises.now.trips.items) promises.now.apart.items (Some label.now) (region_read region.now)) }
+    ensures { IfOk result (IsCountedAs (map trips_of promises.now.trips.items) promises.now.apart.items (Some label.now) constant (region_read region.now)) }
 {
     let promise = promise_of(&promises.apart);
-    if !is_granted(&promises.trips, label.as_bytes(), 1) {
+    if !is_enough(&promises.trips, label.as_bytes(), constant, 1) {
         return Ok(Choice::without(region.number, Kept::NoTrips));
     }
     let terms = Terms {
         promise,
-        trips: most_trips(&promises.trips, label),
+        trips: trips_sure(&promises.trips, label, constant),
         longest: longest.saturating_sub(1),
     };
     found(alloc, region, terms)
@@ -294,7 +304,8 @@ fn loop_choice(
     };
     let region = region_of(alloc, block, number, counter)?;
     if is_counted_loop(&region) {
-        return counted(alloc, label, &region, longest, promises);
+        let constant = constant_at(blocks, number);
+        return counted(alloc, label, constant, &region, longest, promises);
     }
     match used_in(block.insns(), number, counter) {
         Some(line) => Ok(Choice::without(number, Kept::Used(line, counter))),

@@ -5,9 +5,10 @@ use Rattle.c62_read.specs.declared.block.SerialInsn.{SerialInsn}
 use Rattle.c62_check_loop.specs.Region.{counter_of}
 use Rattle.c62_loop_match.specs.Form.{is_counted_loop}
 use Rattle.c62_loop_match.specs.Parts.{region_of as region_read}
-use Rattle.std.specs.Prelude.{map}
+use Rattle.std.specs.Prelude.{IfOk, map}
 use Rattle.c62_command.specs.Promises.{trips_of}
-use Rattle.c62_pipeline.specs.Chosen.{UsesCounter, counts_down}
+use Rattle.c62_check_loops.specs.Constant.{constant_at}
+use Rattle.c62_pipeline.specs.Chosen.{IsCountedAs, UsesCounter, counts_down}
 use Rattle.c62_pipeline.proofs.Choosing.{chosen_of, none_counts, uncounted_of, used_of}
 use Rattle.c62_pipeline.proofs.chosen.loop_choice.Goals.{in_default-via-in-Some+in_default, in_default-via-in_default}
 use Rattle.c62_pipeline.proofs.chosen.loop_choice.Goals as goal
@@ -37,9 +38,13 @@ returns-then-is_counted_loop c =
     = search (rules, c.label.ensures, c.in-Some-Some.is-1) in
     let counts : counter_of c.args.blocks.now c.args.number ≡ Some c.in-Some-Some.counter
     = search (rules, c.counter_of.ensures, c.in-Some-Some.is-0, c.from.ensures) in
+    let found : IfOk c.counted.result (IsCountedAs (map trips_of c.args.promises.now.trips.items)
+    c.args.promises.now.apart.items (Some c.in-Some-Some.label.now) (constant_at c.args.blocks.now c.args.number)
+    (region_read c.in_ok-region.region))
+    = rw c.constant_at-constant.ensures at c.counted.ensures in
     chosen_of c.counted.result (map trips_of c.args.promises.now.trips.items) c.args.promises.now.apart.items
     c.args.blocks.now c.args.block.now c.in-Some-Some.label.now c.args.number c.in-Some-Some.counter
-    (region_read c.in_ok-region.region) c.requires labelled counts c.in_ok-region.ensures c.counted.ensures
+    (region_read c.in_ok-region.region) c.requires labelled counts c.in_ok-region.ensures found
 
 pub returns-in-Some : goal.returns-in-Some
 returns-in-Some c =
